@@ -4,7 +4,7 @@ use Rattle.std.proofs.Math.Nat.{mul-le-mul_left}
 use Rattle.std.proofs.lemmas.Bool.Decides.{Decides-and, Decides-int_eq}
 use Rattle.std.proofs.lemmas.Nat.{div-add-mod', mod_below}
 use Rattle.std.proofs.lemmas.Int.{ints}
-use Rattle.std.specs.Prelude.{ℤ, pos, ◌+ℤ◌, ◌-ℤ◌, Option, Some, None, IfSome, IsSome}
+use Rattle.std.specs.Prelude.{ℤ, pos, ◌+ℤ◌, ◌-ℤ◌, IsSome}
 use Rattle.std.proofs.lemmas.Nat.Bits.{bit_at-zero}
 use Rattle.cells.specs.declared.place.At.{At}
 use Rattle.cells.specs.declared.place.Box3.{Box3}
@@ -33,10 +33,6 @@ along run at j inside steps =
     let y_is : at.y ≡ run.from.y +ℤ pos 0 = omega (arith, ints, y) in
     let f_is : at.f ≡ run.from.f +ℤ pos 0 = omega (arith, ints, f) in
     (omega (arith, ints, x, steps), λ k. record { x = x_is k; y = y_is k; f = f_is k })
-
-pub along_some : (run : Eliminated) (at : At) → IsInRun run at → (o : Option ℕ) → IfSome o (λ j. at.x -ℤ run.from.x ≡ pos j) → IfSome o (λ j. (j < run.n) × (at ≡ place_along run.from j))
-along_some run at inside None steps = steps
-along_some run at inside (Some j) steps = along run at j inside steps
 
 -- the first cell of a size with axes is inside
 pub first_inside : (size : Size) → HasAxes size → IsInside size (spot 0 0 0)

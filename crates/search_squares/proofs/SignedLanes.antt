@@ -1,6 +1,6 @@
 -- Lanes of 16 bits that stand for signed numbers, by their bits.
 use Rattle.std.proofs.Common.{◌≡◌, ◌∙◌, ℕ, zero, suc, ◌+◌, ◌-◌, ◌*◌, ◌/◌, ◌%◌, ◌^◌, ◌<◌, ◌≤◌, Bool, true, false, if◌then◌else◌, nat_lt, List, [], ◌∷◌, length, map, get_or, replicate, refl, ap, sym, subst, arith, w16, w32, Fits}
-use Rattle.std.proofs.Math.Nat.{mul-le-mul}
+use Rattle.std.proofs.Math.Nat.{le_trans, mul-le-mul, mul-le-mul_left}
 use Rattle.std.proofs.Math.IntN.{nat_abs}
 use Rattle.std.specs.Prelude.{ℤ, pos, negsuc}
 use Rattle.std.specs.Int.{abs_diff, cast_signed, cast_unsigned}
@@ -164,12 +164,6 @@ product_at_most x factor small =
     let near = at_most ((x * factor) % 65536) (omega arith) in
     of_half x small (λ n. from_zero ((x * factor) % 65536) ≤ factor * n) (λ lt. omega (arith, near.0)) (λ le. of_product x (65536 - x) factor (omega arith))
 
-pub times_at_most : (xs : List ℕ) (n factor j : ℕ) → Each1 (λ x. x < 65536) xs → from_zero (get_or (zip2 (λ a b. (a * b) % 65536) xs (replicate n factor)) j 0) ≤ factor * from_zero (get_or xs j 0)
-times_at_most [] n factor j small = omega arith
-times_at_most (x ∷ xs) zero factor j small = omega arith
-times_at_most (x ∷ xs) (suc n) factor zero small = product_at_most x factor small.0
-times_at_most (x ∷ xs) (suc n) factor (suc j) small = times_at_most xs n factor j small.1
-
 -- a difference by its low 16 bits
 abbrev pub less : ℕ → ℕ → ℕ
 less x y = (x + (65536 - y)) % 65536
@@ -179,8 +173,11 @@ difference_at_most x y small_x small_y =
     let near = at_most (less x y) (omega arith) in
     omega (arith, near.0, near.1, small_x, small_y)
 
-pub differences_at_most : (xs ys : List ℕ) (j : ℕ) → Each1 (λ x. x < 65536) xs → Each1 (λ y. y < 65536) ys → from_zero (get_or (zip2 less xs ys) j 0) ≤ abs_diff (get_or ys j 0) (get_or xs j 0)
-differences_at_most [] ys j p q = omega arith
-differences_at_most (x ∷ xs) [] j p q = omega arith
-differences_at_most (x ∷ xs) (y ∷ ys) zero p q = difference_at_most x y p.0 q.0
-differences_at_most (x ∷ xs) (y ∷ ys) (suc j) p q = differences_at_most xs ys j p.1 q.1
+-- taken so many times
+pub differences_at_most : (xs : List ℕ) (n sum factor j : ℕ) → Each1 (λ x. x < 65536) xs → sum < 65536
+    → from_zero (get_or (zip2 (λ a b. (a * b) % 65536) (zip2 less xs (replicate n sum)) (replicate n factor)) j 0) ≤ factor * abs_diff sum (get_or xs j 0)
+differences_at_most [] n sum factor j small few = omega arith
+differences_at_most (x ∷ xs) zero sum factor j small few = omega arith
+differences_at_most (x ∷ xs) (suc n) sum factor zero small few =
+    le_trans (product_at_most (less x sum) factor (omega arith)) (mul-le-mul_left factor (difference_at_most x sum small.0 few))
+differences_at_most (x ∷ xs) (suc n) sum factor (suc j) small few = differences_at_most xs n sum factor j small.1 few

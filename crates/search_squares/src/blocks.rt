@@ -161,38 +161,7 @@ fn block_sum(picture: &Volume, at: At, side: u32) -> u16
 }
 
 impl BoxBlocks {
-    // Takes the block from a cell on, by its index, all of which is free.
-    fn add_block(
-        &mut self,
-        free: &mut [bool],
-        canvas: &Canvas,
-        rect: &Box3,
-        i: usize,
-    ) -> Result<(), AllocError>
-        requires inside { HoldsBox canvas.now.map.size rect.now.corner rect.now.size }
-        requires some { HasCells rect.now.size }
-        requires below { i < cell_count rect.now.size }
-        requires few { 255 * block_bytes self.old.side canvas.now.picture.k < 2 ^ 16 }
-        requires room { HasBlockRoom rect.now.size i self.old.side }
-        requires cells { IsFreeBlock free.old i rect.now.size.w self.old.side }
-        requires rows { HasShortRows self.old.size }
-        requires gathered { AreGathered canvas.now rect.now self.old.side self.old.size
-            self.old.blocks.items free.old }
-        ensures gathered { OnOk result (AreGathered canvas.now rect.now self.new.side
-            self.new.size self.new.blocks.items free.new) }
-        ensures side { self.new.side ≡ self.old.side }
-        ensures size { self.new.size ≡ self.old.size }
-    {
-        let picture = canvas.picture();
-        let step = rect.size.place_at(i);
-        let sum = block_sum(picture, rect.corner.plus(step), self.side);
-        let entry = entries_before(self.size, step);
-        self.blocks.push(Block { entry, step, sum })?;
-        take_block(free, i, rect.size.w as usize, self.side);
-        Ok(())
-    }
-
-    // The same, where there is such a block.
+    // Takes the block from a cell on, by its index, if there is one whose cells are all free.
     fn add_from(
         &mut self,
         free: &mut [bool],
@@ -223,7 +192,13 @@ impl BoxBlocks {
         if !is_block_free(free, i, w, self.side) {
             return Ok(());
         }
-        self.add_block(free, canvas, rect, i)
+        let picture = canvas.picture();
+        let step = rect.size.place_at(i);
+        let sum = block_sum(picture, rect.corner.plus(step), self.side);
+        let entry = entries_before(self.size, step);
+        self.blocks.push(Block { entry, step, sum })?;
+        take_block(free, i, w, self.side);
+        Ok(())
     }
 
     /// Blocks of so many cells on each side, as they come in raster order, of the filled cells of a box with

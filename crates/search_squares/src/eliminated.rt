@@ -33,45 +33,17 @@ impl Eliminated {
         }
     }
 
-    // The places of the run, as a box.
-    fn places(&self) -> Box3
-        ensures { result ≡ run_box self.now }
+    /// Whether a place is one of the run's.
+    pub fn covers(&self, at: At) -> bool
+        ensures { IsTrue result ↔ IsInRun self.now at }
     {
         let size = Size {
             w: self.n,
             h: 1,
             f: 1,
         };
-        Box3 {
-            corner: self.from,
-            size,
-        }
-    }
-
-    /// Whether a place is one of the run's.
-    pub fn covers(&self, at: At) -> bool
-        ensures { IsTrue result ↔ IsInRun self.now at }
-    {
-        self.places().contains(at)
-    }
-
-    // How many places of the run come before one of it; None of another place.
-    fn index_of(&self, at: At) -> Option<u32>
-        ensures { IfSome result (λ j. (j < self.now.n) × (at ≡ place_along self.now.from j)) }
-    {
-        if !self.covers(at) {
-            return None;
-        }
-        steps_past(self.from.x, at.x)
-    }
-
-    // How many places of the run from one of them on are marked, one after another.
-    fn marked_from(&self, first: u32) -> u32
-        requires { first < self.now.n }
-        ensures within { first + result ≤ self.now.n }
-        ensures marked { (j : ℕ) → j < result → IsMarked self.now.above (first + j) }
-    {
-        marked_from(self.above, first).min(self.n - first)
+        let corner = self.from;
+        Box3 { corner, size }.contains(at)
     }
 
     /// How many places along X, from one on, are eliminated for a limit, which may be less than that of the
@@ -82,10 +54,13 @@ impl Eliminated {
         if limit > self.limit {
             return 0;
         }
-        let Some(first) = self.index_of(at) else {
+        if !self.covers(at) {
+            return 0;
+        }
+        let Some(first) = steps_past(self.from.x, at.x) else {
             return 0;
         };
-        self.marked_from(first)
+        marked_from(self.above, first).min(self.n - first)
     }
 
     /// The same run for sums that are at least so many times as great, with a limit of theirs; one without

@@ -17,7 +17,7 @@ use crate::pauses::Pauses;
 use crate::places::{holds_run, places_to_end};
 use crate::rows::{has_cells, short_rows};
 use crate::sums::{BlockSums, LANES};
-use cells::{At, Box3, Size, Sizes, Volume};
+use cells::{At, Box3, Size, Volume};
 use limits::MOST_CHANNELS;
 use map_canvas::Canvas;
 use std::alloc::{AllocError, Global};
@@ -70,16 +70,6 @@ fn box_of_all(sample: &Volume, part: &Box3) -> Box3
     }
 }
 
-// The box of a part in the joined volume, by its number from 1.
-fn part_box(sizes: &Sizes, part: u32) -> Box3
-    requires from { 1 ≤ part }
-    requires to { part ≤ length sizes.now }
-{
-    let size = sizes.at(part);
-    let corner = sizes.stock(part, At { x: 0, y: 0, f: 0 });
-    Box3 { corner, size }
-}
-
 /// The sums of the blocks of all parts of a sample, of several sizes. Made once, they serve all picks
 /// from it.
 #[derive(Drop)]
@@ -122,26 +112,7 @@ impl SampleSums {
         Ok(())
     }
 
-    // The sums of the blocks of more than a cell, of one part, by those of its cells.
-    fn add_wider(
-        &mut self,
-        alloc: Global,
-        sample: &Volume,
-        rect: &Box3,
-        cells: &BlockSums,
-    ) -> Result<(), AllocError>
-        requires cells { AreCellSums sample.now rect.now cells.now.sums.items }
-        requires sums { AreSampleSums sample.now self.old }
-        ensures { OnOk result (AreSampleSums sample.now self.new) }
-    {
-        let side = coarse_side(sample.samples());
-        let all = box_of_all(sample, rect);
-        self.add_level(alloc, sample, rect, side, cells)?;
-        self.add_level(alloc, sample, &all, MIDDLE_SIDE, cells)?;
-        self.add_level(alloc, sample, &all, FINE_SIDE, cells)
-    }
-
-    // The sums of the blocks of all sizes, of one part.
+    // The sums of the blocks of all sizes, of one part: wider ones by those of its cells.
     fn add_part(&mut self, alloc: Global, sample: &Volume, rect: &Box3) -> Result<(), AllocError>
         requires sums { AreSampleSums sample.now self.old }
         ensures { OnOk result (AreSampleSums sample.now self.new) }
@@ -149,8 +120,12 @@ impl SampleSums {
         if !has_cells(rect.size) || !sample.holds(rect) {
             return Ok(());
         }
+        let side = coarse_side(sample.samples());
+        let all = box_of_all(sample, rect);
         let cells = BlockSums::of_cells(alloc, sample, rect)?;
-        self.add_wider(alloc, sample, rect, &cells)?;
+        self.add_level(alloc, sample, rect, side, &cells)?;
+        self.add_level(alloc, sample, &all, MIDDLE_SIDE, &cells)?;
+        self.add_level(alloc, sample, &all, FINE_SIDE, &cells)?;
         self.levels.push(cells)?;
         Ok(())
     }
@@ -164,8 +139,9 @@ impl SampleSums {
         let mut sums = SampleSums::none(alloc);
         let sizes = sample.sizes();
         for n in 0..sizes.len() {
-            let rect = part_box(&sizes, n + 1);
-            sums.add_part(alloc, sample, &rect)?;
+            let size = sizes.at(n + 1);
+            let corner = sizes.stock(n + 1, At { x: 0, y: 0, f: 0 });
+            sums.add_part(alloc, sample, &Box3 { corner, size })?;
         }
         Ok(sums)
     }

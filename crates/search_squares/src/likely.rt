@@ -8,7 +8,6 @@ ghost use Rattle.search_squares.specs.Sums.{AreBlockSums};
 
 use crate::blocks::BoxBlocks;
 use crate::bound::Scale;
-use crate::lanes::first_of;
 use crate::levels::{BoxLevels, LEVELS, SampleSums};
 use crate::places::holds_run;
 use crate::sums::{BlockSums, LANES};
@@ -42,16 +41,6 @@ fn rows_in(room: Size) -> u32 {
     room.h.saturating_mul(room.f).saturating_add(ROWS / 2 - 1) / ROWS
 }
 
-// The first place of a row, counted through all frames.
-fn row_start(corner: At, room: Size, row: u32) -> At {
-    let h = room.h.max(1);
-    At {
-        x: corner.x,
-        y: corner.y.wrapping_add((row % h).cast_signed()),
-        f: corner.f.wrapping_add((row / h).cast_signed()),
-    }
-}
-
 // The place so many cells further along X.
 fn stepped(at: At, n: u32) -> At {
     At {
@@ -59,14 +48,6 @@ fn stepped(at: At, n: u32) -> At {
         y: at.y,
         f: at.f,
     }
-}
-
-// How many times the differences of so many blocks are taken, of so many bytes each, for their totals.
-fn factor_for(blocks: usize, bytes: u32) -> u16 {
-    let far = FAR
-        .saturating_mul(u64::from(bytes))
-        .saturating_mul((blocks as u64).isqrt().saturating_add(1));
-    (65536 / far.max(1)).clamp(1, 256) as u16
 }
 
 impl BoxBlocks {
@@ -103,7 +84,10 @@ impl BoxBlocks {
         };
         let totals = self.totals(sums, canvas, sample, rect, from, n, scale);
         let total = totals.reduce_min();
-        let lane = first_of(totals, total);
+        let lane = totals
+            .simd_eq(u16x32::splat(total))
+            .to_bitmask()
+            .trailing_zeros();
         if total >= least || lane >= n {
             return None;
         }
@@ -127,7 +111,12 @@ impl BoxBlocks {
     {
         let k = sample.samples();
         let bytes = self.side.saturating_mul(self.side).saturating_mul(k);
-        let factor = factor_for(self.blocks.as_slice().len(), bytes);
+        let blocks = self.blocks.as_slice().len() as u64;
+        let far = FAR
+            .saturating_mul(u64::from(bytes))
+            .saturating_mul(blocks.isqrt().saturating_add(1));
+        // How many times differences are taken for the totals.
+        let factor = (65536 / far.max(1)).clamp(1, 256) as u16;
         let width = n.min(LANES as u32);
         let mut least = u16::MAX;
         let mut nearest = None;
@@ -200,7 +189,14 @@ impl BoxLevels {
         let part = sums.levels.get(i)?;
         let room = room_in(part.rect.size, rect.size);
         let row = row.saturating_mul(ROWS).saturating_add(ROWS / 2);
-        let from = row_start(part.rect.corner, room, row);
+        // The first place of the row, which is counted through all frames.
+        let corner = part.rect.corner;
+        let h = room.h.max(1);
+        let from = At {
+            x: corner.x,
+            y: corner.y.wrapping_add((row % h).cast_signed()),
+            f: corner.f.wrapping_add((row / h).cast_signed()),
+        };
         blocks.nearest_in(part, canvas, sample, rect, from, room.w)
     }
 }

@@ -1,12 +1,12 @@
 // The sums of the blocks of a box of the sample.
-ghost use Rattle.std.specs.Prelude.{◌≡◌, ◌≤◌, ◌<◌, ◌+◌, ◌*◌, ◌^◌, ℕ, IfOk, OnOk, Some, drop, length, replicate, slice_index, take};
+ghost use Rattle.std.specs.Prelude.{◌≡◌, ◌≤◌, ◌<◌, ◌+◌, ◌*◌, ◌^◌, ℕ, IfOk, OnOk, Some, drop, length, slice_index, take};
 ghost use Rattle.cells.specs.Boxes.{HasCells};
 ghost use Rattle.cells.specs.Cells.{Holds, IsVolume};
 ghost use Rattle.cells.specs.Places.{DifferenceFits, IsInside, IsSmall, index_in, minus};
 ghost use Rattle.search_squares.specs.Blocks.{block_bytes};
 ghost use Rattle.search_squares.specs.Sums.{AreAdded, AreBlockSums, AreCellSums, AreBlockEntries, ArePut, AreRows, IsCellSum, stepped_sum};
 
-use crate::lanes::{no_sums, with_run};
+use crate::lanes::no_sums;
 use crate::rows::{byte_sum, cell_of, has_cells, step_to};
 use cells::{At, Box3, Size, Volume};
 use std::alloc::{AllocError, Global};
@@ -48,22 +48,6 @@ fn add_cell_sums(
     Ok(())
 }
 
-// The sums of the cells of a box, in raster order, and LANES entries of 0 after them.
-fn cell_sums(alloc: Global, sample: &Volume, rect: &Box3) -> Result<Vec<u16>, AllocError>
-    requires volume { IsVolume sample.now }
-    requires small { IsSmall rect.now.size }
-    requires inside { Holds sample.now rect.now.corner rect.now.size }
-    ensures { IfOk result (λ sums. AreCellSums sample.now rect.now sums.items) }
-{
-    let h = rect.size.h;
-    let mut sums = Vec::with_capacity(alloc, rect.size.cells() + LANES)?;
-    for row in 0..h * rect.size.f {
-        add_cell_sums(&mut sums, sample, rect, row % h, row / h)?;
-    }
-    sums.extend_from_slice(&[0; LANES])?;
-    Ok(sums)
-}
-
 // A run of entries from one on, one a lane.
 #[inline(always)]
 fn run_at(entries: &[u16], first: usize) -> &[u16]
@@ -85,25 +69,10 @@ fn stepped_sums(entries: &[u16], first: usize, step: usize, n: u32) -> u16x32
 {
     let mut sums = no_sums();
     for j in 0..n {
-        sums = with_run(sums, run_at(entries, first + step * j as usize));
+        let run = run_at(entries, first + step * j as usize);
+        sums = sums.strict_add(u16x32::from_slice(run));
     }
     sums
-}
-
-// Writes sums over a run of entries.
-#[inline(always)]
-fn put_run(entries: &mut [u16], first: usize, sums: u16x32)
-    requires room { first + LANES ≤ length entries.old }
-    requires long { length sums ≡ LANES }
-    ensures long { length entries.new ≡ length entries.old }
-    ensures run { (i : ℕ) → i < LANES
-        → slice_index entries.new (first + i) ≡ slice_index sums i }
-    ensures before { (i : ℕ) → i < first
-        → slice_index entries.new i ≡ slice_index entries.old i }
-    ensures after { (i : ℕ) → first + LANES ≤ i
-        → slice_index entries.new i ≡ slice_index entries.old i }
-{
-    sums.copy_to_slice(&mut entries[first..]);
 }
 
 // Makes of each entry, in its place, the sum of n entries: from it on, each so many further than
@@ -120,42 +89,13 @@ fn add_up(entries: &mut [u16], step: usize, n: u32)
     for run in 0..runs {
         let first = LANES * run;
         let sums = stepped_sums(entries, first, step, n);
-        put_run(entries, first, sums);
+        sums.copy_to_slice(&mut entries[first..]);
     }
 }
 
-// The sums of the blocks of a box with cells, in raster order, and LANES entries more. They are made in
-// the place of a copy of the sums of its cells: first along the rows, then down the columns. A sum that
-// runs past the end of a row or of a frame is no block's.
-fn sums_of_cells(
-    alloc: Global,
-    sample: &Volume,
-    rect: &Box3,
-    side: u32,
-    cells: &[u16],
-) -> Result<Vec<u16>, AllocError>
-    requires volume { IsVolume sample.now }
-    requires small { IsSmall rect.now.size }
-    requires inside { Holds sample.now rect.now.corner rect.now.size }
-    requires some { 1 ≤ side }
-    requires few { 255 * block_bytes side sample.now.k < 2 ^ 16 }
-    requires cells { AreCellSums sample.now rect.now cells.now }
-    ensures { IfOk result (λ sums. AreBlockEntries sample.now rect.now side sums.items) }
-{
-    let mut sums = Vec::from_slice(alloc, cells)?;
-    add_up(&mut sums, 1, side);
-    add_up(&mut sums, rect.size.w as usize, side);
-    Ok(sums)
-}
-
-// Entries of 0 for a box without cells.
-fn no_entries(alloc: Global) -> Result<Vec<u16>, AllocError>
-    ensures { IfOk result (λ sums. sums.items ≡ replicate LANES 0) }
-{
-    vec![in alloc; 0u16; LANES]
-}
-
-// The sums of the blocks of a box, in raster order, and LANES entries more.
+// The sums of the blocks of a box, in raster order, and LANES entries more. They are made in the place of a
+// copy of the sums of its cells: first along the rows, then down the columns. A sum that runs past the end of
+// a row or of a frame is no block's.
 fn block_sums(
     alloc: Global,
     sample: &Volume,
@@ -170,16 +110,20 @@ fn block_sums(
     ensures { IfOk result (λ sums. AreBlockEntries sample.now rect.now side sums.items) }
 {
     if !has_cells(rect.size) {
-        return no_entries(alloc);
+        return vec![in alloc; 0u16; LANES];
     }
     // Called for its contract only: it shows the prover that the sample is a volume.
     let _sample = sample.samples();
-    sums_of_cells(alloc, sample, rect, side, cells)
+    let mut sums = Vec::from_slice(alloc, cells)?;
+    add_up(&mut sums, 1, side);
+    add_up(&mut sums, rect.size.w as usize, side);
+    Ok(sums)
 }
 
 impl BlockSums {
-    /// The sums of the cells of a box with cells inside the sample, each a block by itself. They take 2
-    /// bytes a cell, and no more while they are made. The one error is out of memory.
+    /// The sums of the cells of a box with cells inside the sample, each a block by itself, in raster order,
+    /// and LANES entries of 0 after them. They take 2 bytes a cell, and no more while they are made. The one
+    /// error is out of memory.
     pub(crate) fn of_cells(
         alloc: Global,
         sample: &Volume,
@@ -192,7 +136,12 @@ impl BlockSums {
     {
         // Called for its contract only: it shows the prover that the sample is a volume.
         let _sample = sample.samples();
-        let sums = cell_sums(alloc, sample, rect)?;
+        let h = rect.size.h;
+        let mut sums = Vec::with_capacity(alloc, rect.size.cells() + LANES)?;
+        for row in 0..h * rect.size.f {
+            add_cell_sums(&mut sums, sample, rect, row % h, row / h)?;
+        }
+        sums.extend_from_slice(&[0; LANES])?;
         Ok(BlockSums {
             rect: *rect,
             side: 1,

@@ -1,16 +1,21 @@
-use Rattle.std.proofs.Common.{ℕ, List, get_or, ap, subst, ◌≡◌, ◌∙◌, ◌≤◌, ◌*◌, arith}
-use Rattle.std.proofs.Math.Nat.{mul-le-mul_left}
-use Rattle.std.proofs.lemmas.List.{get_or-replicate}
+use Rattle.std.proofs.Common.{◌≤◌, ◌*◌, ◌%◌, ℕ, get_or, replicate, take, subst, w16, arith}
 use Rattle.std.specs.Int.{abs_diff}
+use Rattle.std.specs.Simd.Lanes.{zip2}
+use Rattle.std.proofs.lemmas.List.{get_or-take}
+use Rattle.std.proofs.lemmas.Simd.{below_from_Fits, chunk-fits}
 use Rattle.search_squares.specs.declared.sums.TheConstants.{LANES}
 use Rattle.search_squares.specs.Lanes.{from_zero}
-use Rattle.search_squares.proofs.Vectors.{term_more}
+use Rattle.search_squares.proofs.SignedLanes.{differences_at_most, less}
+use Rattle.search_squares.proofs.Vectors.{sum_at_most, term_more}
 use Rattle.search_squares.proofs.lanes.with_block.Goals as goal
 
 pub returns : goal.returns
 returns c = λ j lt.
     let run = c.args.run.now in
-    let sum : get_or c.each_lane.result j 0 ≡ c.args.sum = ap (λ (xs : List ℕ). get_or xs j 0) c.each_lane.ensures ∙ get_or-replicate LANES j c.args.sum 0 lt in
-    let difference : from_zero (get_or c.differences.result j 0) ≤ abs_diff c.args.sum (get_or run j 0) = subst (λ (n : ℕ). from_zero (get_or c.differences.result j 0) ≤ abs_diff n (get_or run j 0)) sum (c.differences.ensures j lt) in
-    let times : from_zero (get_or c.times-lanes.result j 0) ≤ c.args.factor * abs_diff c.args.sum (get_or run j 0) = omega (arith, c.times-lanes.ensures j, mul-le-mul_left c.args.factor difference) in
-    term_more c.args.factor (abs_diff c.args.sum (get_or run j 0)) (from_zero (get_or c.times-lanes.result j 0)) _ _ _ times (c.high_squares.ensures j) (c.sums.ensures j)
+    let sum = c.args.sum in
+    let factor = c.args.factor in
+    let small = below_from_Fits w16 (take LANES run) (chunk-fits w16 0 LANES run c.type_inv.run) in
+    let lane = from_zero (get_or (zip2 (λ a b. (a * b) % 65536) (zip2 less (take LANES run) (replicate 32 sum)) (replicate 32 factor)) j 0) in
+    let near : lane ≤ factor * abs_diff sum (get_or run j 0) =
+    subst (λ (n : ℕ). lane ≤ factor * abs_diff sum n) (get_or-take LANES run j 0 lt) (differences_at_most (take LANES run) 32 sum factor j small (omega (arith, c.ranges.sum.fits))) in
+    term_more factor (abs_diff sum (get_or run j 0)) lane _ _ _ near (c.high_squares.ensures j) (sum_at_most c.args.totals c.high_squares.result _ j)

@@ -3,7 +3,7 @@ use Rattle.std.specs.Prelude.{Some}
 use Rattle.cells.specs.declared.place.Size.{Size}
 use Rattle.cells.specs.Places.{HasAxes}
 use Rattle.search_squares.proofs.PlaceRuns.{first_inside}
-use Rattle.search_squares.proofs.levels.part_box.Goals as goal
+use Rattle.search_squares.proofs.levels.SampleSums.make.Goals as goal
 
 same_some : (x y : Size) → Some x ≡ Some y → x ≡ y
 same_some x y e = cc

@@ -1,3 +1,4 @@
+use Rattle.std.proofs.lemmas.Grind.{common_steps}
 use Rattle.std.proofs.Common.{◌≡◌, ◌*◌, length, subst, arith}
 use Rattle.match_error.proofs.Tables.{few_rows}
 use Rattle.cells.proofs.BoxLaws.{box_small}
@@ -32,3 +33,9 @@ add_filled_row-requires-clause-some c = c.requires.some
 
 pub overflow_mul-row-end : goal.overflow_mul-row-end
 overflow_mul-row-end c = omega (arith, few_rows c.args.canvas.now.map c.args.rect.now c.map-map.ensures.canvas.map.small c.requires.inside)
+
+pub loop-row-init : goal.loop-row-init
+loop-row-init c = grind (arith, common_steps)
+
+pub returns-clause-filled : goal.returns-clause-filled
+returns-clause-filled c = grind (arith, common_steps)

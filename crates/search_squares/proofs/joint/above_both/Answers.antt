@@ -75,3 +75,12 @@ totals-totals-requires-clause-sums c = c.requires.sums
 
 pub totals-totals-requires-clause-side : goal.totals-totals-requires-clause-side
 totals-totals-requires-clause-side c = c.requires.side
+
+pub returns-then-n-eq0 : goal.returns-then-n-eq0
+returns-then-n-eq0 c = grind (arith, common_steps)
+
+pub nonzero_div-scale : goal.nonzero_div-scale
+nonzero_div-scale c = grind (arith, common_steps)
+
+pub overflow_cast-alone : goal.overflow_cast-alone
+overflow_cast-alone c = grind (arith, common_steps)

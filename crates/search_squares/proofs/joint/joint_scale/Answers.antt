@@ -19,3 +19,6 @@ overflow_mul-square c = grind (arith, common_steps)
 
 pub overflow_cast-result : goal.overflow_cast-result
 overflow_cast-result c = omega arith
+
+pub returns-in_err-scale : goal.returns-in_err-scale
+returns-in_err-scale c = grind (arith, common_steps)

@@ -95,3 +95,6 @@ overflow_add-part c = omega arith
 
 pub overflow_mul-part : goal.overflow_mul-part
 overflow_mul-part c = omega arith
+
+pub get-requires-3 : goal.get-requires-3
+get-requires-3 c = grind (arith, common_steps)

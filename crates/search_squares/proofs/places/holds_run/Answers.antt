@@ -18,3 +18,9 @@ returns-clause-inside c = λ _.
 
 pub returns-clause-some : goal.returns-clause-some
 returns-clause-some c = grind (arith, common_steps)
+
+pub returns-then-not-axis_holds-3-clause-some : goal.returns-then-not-axis_holds-3-clause-some
+returns-then-not-axis_holds-3-clause-some c = grind (arith, common_steps)
+
+pub returns-then-not-axis_holds-2-clause-some : goal.returns-then-not-axis_holds-2-clause-some
+returns-then-not-axis_holds-2-clause-some c = grind (arith, common_steps)

@@ -1,3 +1,4 @@
+use Rattle.std.proofs.lemmas.Grind.{common_steps}
 use Rattle.std.proofs.Common.{◌≡◌, ◌∙◌, arith, sym, subst}
 use Rattle.cells.proofs.PartBoxes.{held_small}
 use Rattle.std.proofs.lemmas.List.{take_at, with_items_is}
@@ -34,3 +35,12 @@ returns c =
 
 pub add_up-requires-2-clause-some : goal.add_up-requires-2-clause-some
 add_up-requires-2-clause-some c = c.requires.some
+
+pub returns-then-not-has_cells : goal.returns-then-not-has_cells
+returns-then-not-has_cells c = grind (arith, common_steps)
+
+pub add_up-requires-clause-reach : goal.add_up-requires-clause-reach
+add_up-requires-clause-reach c = grind (arith, common_steps)
+
+pub add_up-requires-clause-some : goal.add_up-requires-clause-some
+add_up-requires-clause-some c = grind (arith, common_steps)

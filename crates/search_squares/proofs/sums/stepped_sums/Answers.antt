@@ -1,3 +1,4 @@
+use Rattle.std.proofs.lemmas.Grind.{common_steps}
 use Rattle.std.proofs.Common.{◌≡◌, ◌≤◌, ℕ, ◌+◌, ◌∙◌, List, length, length-take-le, get_or, take, ap, arith}
 use Rattle.std.proofs.lemmas.List.{get_or-replicate, get_or-take, length-replicate}
 use Rattle.std.proofs.lemmas.Simd.{get_or-zip2, length-zip2}
@@ -40,3 +41,6 @@ returns-clause-sums c = λ i lt.
 
 pub run_at-run-requires : goal.run_at-run-requires
 run_at-run-requires c = omega arith
+
+pub overflow_add-first : goal.overflow_add-first
+overflow_add-first c = grind (arith, common_steps)

@@ -23,3 +23,6 @@ returns-in_default c = λ j _ marked. absurd (none_marked j marked)
 
 pub totals-totals-requires-clause-blocks : goal.totals-totals-requires-clause-blocks
 totals-totals-requires-clause-blocks c = grind (arith, common_steps)
+
+pub returns-then-n-eq0 : goal.returns-then-n-eq0
+returns-then-n-eq0 c = grind (arith, common_steps)

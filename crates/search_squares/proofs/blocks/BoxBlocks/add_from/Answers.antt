@@ -1,3 +1,4 @@
+use Rattle.std.proofs.lemmas.Grind.{common_steps}
 use Rattle.std.proofs.Common.{◌≡◌, ◌<◌, ◌*◌, ◌/◌, ◌%◌, ◌^◌, ap, sym, subst, ◌∙◌, arith}
 use Rattle.cells.specs.Cells.{Cells, HasRun}
 use Rattle.cells.specs.Places.{SumFits, place_of, plus, spot}
@@ -73,3 +74,15 @@ returns-clause-gathered c =
     let has_sum : HasSumOf canvas rect side block = c.block_sum-sum.ensures ∙ (λ k. block_sum (c.picture-picture.ensures.picture k) side (at k)) in
     more_gathered canvas rect side c.args.self.now.size c.args.i _ c.args.self.now.blocks.items _ block c.args.free.now c.take_block.new.free
     c.requires.some c.requires.below (c.has_room.ensures c.if-not-has_room.false) (c.is_block_free.ensures c.if-not-is_block_free.false) c.place_at-step.ensures c.entries_before-entry.ensures has_sum c.in_ok-push.ensures.items c.take_block.ensures c.requires.gathered
+
+pub place_at-step-requires-clause-below : goal.place_at-step-requires-clause-below
+place_at-step-requires-clause-below c = grind (arith, common_steps)
+
+pub returns-clause-size : goal.returns-clause-size
+returns-clause-size c = grind (arith, common_steps)
+
+pub returns-clause-side : goal.returns-clause-side
+returns-clause-side c = grind (arith, common_steps)
+
+pub returns-then-not-is_block_free-clause-gathered : goal.returns-then-not-is_block_free-clause-gathered
+returns-then-not-is_block_free-clause-gathered c = grind (arith, common_steps)

@@ -59,3 +59,6 @@ returns-clause-side c = c.loop-i.invariant.side
 
 pub returns-then-side-eq1-clause-side : goal.returns-then-side-eq1-clause-side
 returns-then-side-eq1-clause-side c = subst (λ side. IfOk c.singles_of.result (λ blocks. blocks.side ≡ side)) (sym c.if-side-eq1.true) c.singles_of.ensures.side
+
+pub add_from-requires-clause-below : goal.add_from-requires-clause-below
+add_from-requires-clause-below c = grind (arith, common_steps)

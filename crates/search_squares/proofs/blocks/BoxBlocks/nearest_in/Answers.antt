@@ -13,3 +13,12 @@ nearest_of-requires-clause-inside c = c.requires.inside
 
 pub overflow_sub-n : goal.overflow_sub-n
 overflow_sub-n c = omega arith
+
+pub nearest_of-requires-clause-over : goal.nearest_of-requires-clause-over
+nearest_of-requires-clause-over c = grind (arith, common_steps)
+
+pub overflow_cast-factor : goal.overflow_cast-factor
+overflow_cast-factor c = grind (arith, common_steps)
+
+pub nonzero_div-max : goal.nonzero_div-max
+nonzero_div-max c = grind (arith, common_steps)

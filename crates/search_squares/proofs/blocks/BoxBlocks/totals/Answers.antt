@@ -1,3 +1,4 @@
+use Rattle.std.proofs.lemmas.Grind.{common_steps}
 use Rattle.std.proofs.Common.{arith, sym, ◌∙◌}
 use Rattle.search_squares.proofs.RunEntries.{same_size}
 use Rattle.search_squares.proofs.blocks.BoxBlocks.totals.Goals as goal
@@ -22,3 +23,9 @@ totals_by-requires-2-clause-some c = omega arith
 
 pub totals_by-requires-2-clause-blocks : goal.totals_by-requires-2-clause-blocks
 totals_by-requires-2-clause-blocks c = c.requires.blocks
+
+pub totals_by-requires-clause-few : goal.totals_by-requires-clause-few
+totals_by-requires-clause-few c = grind (arith, common_steps)
+
+pub totals_by-requires-2-clause-few : goal.totals_by-requires-2-clause-few
+totals_by-requires-2-clause-few c = grind (arith, common_steps)

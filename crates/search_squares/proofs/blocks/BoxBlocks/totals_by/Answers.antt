@@ -1,3 +1,4 @@
+use Rattle.std.proofs.lemmas.Grind.{common_steps}
 use Rattle.std.proofs.Common.{◌<◌, ◌*◌, ℕ, List, length, get_or, ap, sym, subst, arith}
 use Rattle.std.proofs.Math.Nat.{mul-le-mul_left}
 use Rattle.std.proofs.lemmas.List.{get_or-replicate}
@@ -125,3 +126,6 @@ offset_bounds-blocks-i c = omega arith
 
 pub left_in-requires : goal.left_in-requires
 left_in-requires c = omega arith
+
+pub stretches-smaller : goal.stretches-smaller
+stretches-smaller c = grind (arith, common_steps)

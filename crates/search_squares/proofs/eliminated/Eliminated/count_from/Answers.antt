@@ -1,3 +1,4 @@
+use Rattle.std.proofs.lemmas.Grind.{common_steps}
 use Rattle.std.proofs.Common.{◌≡◌, ◌+◌, ◌<◌, ap, sym, subst, ◌∙◌, arith, w32, to_z, of_z}
 use Rattle.std.proofs.lemmas.Int.{to_z-of_z}
 use Rattle.std.specs.Prelude.{pos, ◌-ℤ◌}
@@ -29,3 +30,12 @@ overflow_sub-self c =
     let from_is : to_z w32 (of_z w32 run.from.x) ≡ run.from.x = grind (arith, to_z-of_z) in
     let steps : at.x -ℤ run.from.x ≡ pos first = subst (λ z. z -ℤ run.from.x ≡ pos first) at_is (subst (λ z. to_z w32 (of_z w32 at.x) -ℤ z ≡ pos first) from_is c.in-Some.ensures) in
     omega (arith, (along run at first (c.covers.ensures.0 c.if-not-covers.false) steps).0)
+
+pub returns-in_default : goal.returns-in_default
+returns-in_default c = grind (arith, common_steps)
+
+pub returns-then-not-covers : goal.returns-then-not-covers
+returns-then-not-covers c = grind (arith, common_steps)
+
+pub returns-then-limit-self : goal.returns-then-limit-self
+returns-then-limit-self c = grind (arith, common_steps)

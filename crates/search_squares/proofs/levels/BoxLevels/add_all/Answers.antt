@@ -40,3 +40,6 @@ add_level-requires-2-clause-filled c = c.requires.filled
 
 pub add_level-requires-2-clause-inside : goal.add_level-requires-2-clause-inside
 add_level-requires-2-clause-inside c = c.requires.inside
+
+pub returns : goal.returns
+returns c = grind (arith, common_steps)

@@ -42,3 +42,6 @@ above-requires-clause-few c = c.requires.few
 
 pub returns : goal.returns
 returns c = c.above.ensures
+
+pub above-requires-clause-side : goal.above-requires-clause-side
+above-requires-clause-side c = grind (arith, common_steps)

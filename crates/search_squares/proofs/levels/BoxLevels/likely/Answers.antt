@@ -13,3 +13,9 @@ nearest_in-requires-clause-inside c = c.requires.inside
 
 pub nearest_in-requires-clause-over : goal.nearest_in-requires-clause-over
 nearest_in-requires-clause-over c = c.requires.over
+
+pub nonzero_div-row : goal.nonzero_div-row
+nonzero_div-row c = grind (arith, common_steps)
+
+pub nonzero_rem-row : goal.nonzero_rem-row
+nonzero_rem-row c = grind (arith, common_steps)

@@ -31,3 +31,9 @@ level_marks-more-requires-clause-sums c = omega arith
 
 pub level_marks-more-requires-clause-levels : goal.level_marks-more-requires-clause-levels
 level_marks-more-requires-clause-levels c = omega arith
+
+pub level_marks-more-requires-clause-inside : goal.level_marks-more-requires-clause-inside
+level_marks-more-requires-clause-inside c = grind (arith, common_steps)
+
+pub level_marks-more-requires-clause-over : goal.level_marks-more-requires-clause-over
+level_marks-more-requires-clause-over c = grind (arith, common_steps)

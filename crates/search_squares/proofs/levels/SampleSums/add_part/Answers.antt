@@ -1,3 +1,5 @@
+use Rattle.std.proofs.Common.{arith}
+use Rattle.std.proofs.lemmas.Grind.{common_steps}
 use Rattle.std.proofs.Common.{◌<◌, ◌*◌, ◌^◌, subst, sym}
 use Rattle.std.specs.Prelude.{All}
 use Rattle.std.proofs.lemmas.List.Elements.{All-push}
@@ -21,3 +23,21 @@ add_level-requires-3-clause-cells c = λ some. subst (λ rect. AreCellSums c.arg
 
 pub add_level-requires-clause-few : goal.add_level-requires-clause-few
 add_level-requires-clause-few c = subst (λ k. 255 * block_bytes c.coarse_side-side.result k < 2 ^ 16) c.samples.ensures.samples c.coarse_side-side.ensures.few
+
+pub add_level-requires-3-clause-few : goal.add_level-requires-3-clause-few
+add_level-requires-3-clause-few c = grind (arith, common_steps)
+
+pub of_cells-requires-clause-some : goal.of_cells-requires-clause-some
+of_cells-requires-clause-some c = grind (arith, common_steps)
+
+pub add_level-requires-2-clause-few : goal.add_level-requires-2-clause-few
+add_level-requires-2-clause-few c = grind (arith, common_steps)
+
+pub add_level-requires-clause-some : goal.add_level-requires-clause-some
+add_level-requires-clause-some c = grind (arith, common_steps)
+
+pub of_cells-requires-clause-inside : goal.of_cells-requires-clause-inside
+of_cells-requires-clause-inside c = grind (arith, common_steps)
+
+pub coarse_side-side-requires : goal.coarse_side-side-requires
+coarse_side-side-requires c = grind (arith, common_steps)

@@ -87,36 +87,6 @@ fn put_row(sums: &mut [u64], more: &[u64], keep: bool)
     }
 }
 
-// The index, among the cells of a size, of the first cell of a row of a block.
-fn start_of(size: Size, block: &Block, row: u32) -> usize
-    requires small { IsSmall size }
-    requires inside { HoldsBlock size block.now }
-    requires some { 1 ≤ block.now.x.len }
-    requires row { row < block.now.y.len * block.now.f.len }
-    ensures start { result ≡ row_start size block.now row }
-    ensures end { result + block.now.x.len ≤ cell_count size }
-{
-    let y = block.y.from + row % block.y.len;
-    let f = block.f.from + row / block.y.len;
-    let x = block.x.from;
-    Counts { x, y, f }.index(size)
-}
-
-// The same, among the cells of a size from the block's first cell on.
-fn offset_of(size: Size, block: &Block, row: u32) -> usize
-    requires small { IsSmall size }
-    requires room { (block.now.x.len ≤ size.w) × (block.now.y.len ≤ size.h)
-        × (block.now.f.len ≤ size.f) }
-    requires some { 1 ≤ block.now.x.len }
-    requires row { row < block.now.y.len * block.now.f.len }
-    ensures start { result ≡ row_offset size block.now row }
-    ensures end { result + block.now.x.len ≤ cell_count size }
-{
-    let y = row % block.y.len;
-    let f = row / block.y.len;
-    Counts { x: 0, y, f }.index(size)
-}
-
 // Puts the first entries of each row of a box of numbers, at the corners of a block, into their sums.
 fn put_rows(sums: &mut [u64], corners: Size, block: &Block, more: &[u64], size: Size, keep: bool)
     requires small { IsSmall corners }
@@ -139,8 +109,15 @@ fn put_rows(sums: &mut [u64], corners: Size, block: &Block, more: &[u64], size: 
     let w = block.x.len as usize;
     let rows = block.y.len * block.f.len;
     for row in 0..rows {
-        let to = start_of(corners, block, row);
-        let from = offset_of(size, block, row);
+        let (y, f) = (row % block.y.len, row / block.y.len);
+        let first = Counts {
+            x: block.x.from,
+            y: block.y.from + y,
+            f: block.f.from + f,
+        };
+        let to = first.index(corners);
+        // The numbers are counted from the block's first cell on.
+        let from = Counts { x: 0, y, f }.index(size);
         put_row(&mut sums[to..to + w], &more[from..from + w], keep);
     }
 }
@@ -159,24 +136,6 @@ fn less_one(axis: Axis, size: Size) -> Size
         Axis::F => less.f -= 1,
     }
     less
-}
-
-// What the pairs along one axis cost in each window whose corner is in a block, from the first entry
-// of the rows of its reach on.
-fn sum_axis(costs: &mut [u64], map: &Map, sample: &Volume, window: Size, block: &Block, axis: Axis)
-    requires window { IsWindow map.now.size window }
-    requires some { HasCells (block_size block.now) }
-    requires inside { HoldsBlock (corners map.now.size window) block.now }
-    requires count { length costs.old ≡ cell_count (block_size (reach_of window block.now)) }
-    ensures sums { EachOfRows block.now (λ row k.
-        slice_index costs.new
-        (row_offset (block_size (reach_of window block.now)) block.now row + k)
-        ≡ at_row block.now (axis_sum (distance sample.now) (map_at map.now) axis window) row k) }
-    ensures small { AreAtMost most_after_three costs.new }
-{
-    let reach = block.reach(map.size(), window);
-    fill(costs, map, sample, &reach, axis);
-    sum_boxes(costs, reach.size(), less_one(axis, window));
 }
 
 // Puts what the pairs along one axis cost in each window whose corner is in a block into the sums.
@@ -210,9 +169,11 @@ fn put_axis(
     ensures others { SameElsewhere (corners map.now.size window) block.now sums.old sums.new }
 {
     let output = map.size();
-    let size = block.reach(output, window).size();
+    let reach = block.reach(output, window);
+    let size = reach.size();
     let costs = &mut scratch[..size.cells()];
-    sum_axis(costs, map, sample, window, block, axis);
+    fill(costs, map, sample, &reach, axis);
+    sum_boxes(costs, size, less_one(axis, window));
     put_rows(sums, corners(output, window), block, costs, size, keep);
 }
 

@@ -1,8 +1,11 @@
 use Rattle.std.proofs.Common.{arith}
 use Rattle.std.proofs.lemmas.Grind.{common_steps}
-use Rattle.std.proofs.Common.{◌+◌, ap, ◌∙◌}
-use Rattle.cost_windows.specs.Slides.{row_start}
+use Rattle.std.proofs.Common.{◌+◌, ap, ◌∙◌, subst}
+use Rattle.cells.specs.Distances.{distance}
+use Rattle.map_canvas.specs.Maps.{map_at}
+use Rattle.cost_windows.specs.Slides.{AreCosts, block_size, box_run, row_start}
 use Rattle.cost_windows.specs.Tables.{corners}
+use Rattle.cost_windows.proofs.Reaches.{axis_of_runs}
 use Rattle.cost_windows.proofs.reach.put_axis.Goals as goal
 
 pub returns-clause-others : goal.returns-clause-others
@@ -11,7 +14,15 @@ returns-clause-others c = λ i none.
     c.put_rows.ensures.others i (λ row k below lt e. none row k below lt (e ∙ ap (λ size. row_start size c.args.block.now row + k) shape))
 
 pub returns-clause-put : goal.returns-clause-put
-returns-clause-put c = grind (arith, common_steps)
+returns-clause-put c =
+    let d = distance c.args.sample.now in
+    let m = map_at c.args.map.now in
+    let same = c.reach-reach.ensures.reach in
+    let sums =
+    axis_of_runs d m c.args.axis c.args.window c.args.block.now c.fill.new.costs c.sum_boxes.new.buffer c.requires.window.some
+    (subst (λ reach. AreCosts d m c.args.axis reach c.fill.new.costs) same c.fill.ensures.costs)
+    (λ j. c.sum_boxes.ensures.sums j ∙ (λ i. box_run ((c.size-size.ensures ∙ ap block_size same) i) (c.less_one.ensures.less i) c.fill.new.costs j)) in
+    grind (arith, common_steps, sums)
 
 pub put_rows-requires-clause-fits : goal.put_rows-requires-clause-fits
 put_rows-requires-clause-fits c = grind (arith, common_steps)
@@ -24,9 +35,6 @@ put_rows-requires-clause-sums c = grind (arith, common_steps)
 
 pub put_rows-requires-clause-more : goal.put_rows-requires-clause-more
 put_rows-requires-clause-more c = grind (arith, common_steps)
-
-pub sum_axis-requires-clause-count : goal.sum_axis-requires-clause-count
-sum_axis-requires-clause-count c = grind (arith, common_steps)
 
 pub put_rows-requires-clause-inside : goal.put_rows-requires-clause-inside
 put_rows-requires-clause-inside c = grind (arith, common_steps)
@@ -51,3 +59,20 @@ slice_bounds-costs-end c = grind (arith, common_steps)
 
 pub cells-requires : goal.cells-requires
 cells-requires c = grind (arith, common_steps)
+
+pub sum_boxes-requires-clause-count : goal.sum_boxes-requires-clause-count
+sum_boxes-requires-clause-count c = grind (arith, common_steps)
+
+pub sum_boxes-requires-clause-small : goal.sum_boxes-requires-clause-small
+sum_boxes-requires-clause-small c = grind (arith, common_steps)
+
+pub sum_boxes-requires-clause-size : goal.sum_boxes-requires-clause-size
+sum_boxes-requires-clause-size c = grind (arith, common_steps)
+
+pub fill-requires-clause-count : goal.fill-requires-clause-count
+fill-requires-clause-count c = grind (arith, common_steps)
+
+pub fill-requires-clause-some : goal.fill-requires-clause-some
+fill-requires-clause-some c =
+    let same = c.reach-reach.ensures.reach in
+    omega (arith, ap (λ reach. reach.x.len) same, c.requires.some.w, c.requires.window.some.w)

@@ -27,3 +27,12 @@ returns-then-has_cells-clause-put c = grind (arith, common_steps)
 
 pub returns-then-has_cells-clause-others : goal.returns-then-has_cells-clause-others
 returns-then-has_cells-clause-others c = grind (arith, common_steps)
+
+pub returns-else-has_cells-clause-small : goal.returns-else-has_cells-clause-small
+returns-else-has_cells-clause-small c = grind (arith, common_steps)
+
+pub put_axis-requires-clause-scratch : goal.put_axis-requires-clause-scratch
+put_axis-requires-clause-scratch c = grind (arith, common_steps)
+
+pub put_axis-requires-clause-sums : goal.put_axis-requires-clause-sums
+put_axis-requires-clause-sums c = grind (arith, common_steps)

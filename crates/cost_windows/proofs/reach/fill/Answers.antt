@@ -42,3 +42,30 @@ fill_row-requires-clause-counts c =
 
 pub offset_bounds-costs-start : goal.offset_bounds-costs-start
 offset_bounds-costs-start c = grind (arith, common_steps)
+
+pub nonzero_div-first : goal.nonzero_div-first
+nonzero_div-first c = grind (arith, common_steps)
+
+pub nonzero_rem-first : goal.nonzero_rem-first
+nonzero_rem-first c = grind (arith, common_steps)
+
+pub returns-clause-costs : goal.returns-clause-costs
+returns-clause-costs c = grind (arith, common_steps)
+
+pub overflow_add-first-in-loop-row : goal.overflow_add-first-in-loop-row
+overflow_add-first-in-loop-row c = grind (arith, common_steps)
+
+pub overflow_add-first : goal.overflow_add-first
+overflow_add-first c = grind (arith, common_steps)
+
+pub overflow_add-start : goal.overflow_add-start
+overflow_add-start c = grind (arith, common_steps)
+
+pub overflow_mul-start : goal.overflow_mul-start
+overflow_mul-start c = grind (arith, common_steps)
+
+pub overflow_mul-rows : goal.overflow_mul-rows
+overflow_mul-rows c = grind (arith, common_steps)
+
+pub fill_row-requires-clause-row : goal.fill_row-requires-clause-row
+fill_row-requires-clause-row c = grind (arith, common_steps)

@@ -21,3 +21,15 @@ loop-k-preserved c =
 
 pub returns-clause-small : goal.returns-clause-small
 returns-clause-small c = grind (arith, common_steps)
+
+pub pair_at-requires-clause-index : goal.pair_at-requires-clause-index
+pair_at-requires-clause-index c = grind (arith, common_steps)
+
+pub overflow_add-start : goal.overflow_add-start
+overflow_add-start c = grind (arith, common_steps)
+
+pub returns-clause-costs : goal.returns-clause-costs
+returns-clause-costs c = grind (arith, common_steps)
+
+pub bounds-costs-k : goal.bounds-costs-k
+bounds-costs-k c = grind (arith, common_steps)

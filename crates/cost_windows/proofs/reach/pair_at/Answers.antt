@@ -1,3 +1,4 @@
+use Rattle.std.proofs.lemmas.Grind.{common_steps}
 use Rattle.std.proofs.Common.{◌≡◌, ◌<◌, ◌+◌, length, get_or, sym, ap, ◌∙◌, subst, arith}
 use Rattle.std.specs.Prelude.{None, true, false, IfSome}
 use Rattle.std.proofs.lemmas.List.{get_or_default}
@@ -85,3 +86,12 @@ returns-clause-cost c =
     ∙ ap (λ sources. get_or sources c.args.i None) c.sources-sources.ensures)
     (c.source-2.ensures ∙ c.index-sources-next.is ∙ get_or_default c.sources-sources.result.now (c.args.i + c.stride.result) c.index-sources-next.result None below
     ∙ (λ k. get_or (c.sources-sources.ensures k) (c.args.i + step k) None))
+
+pub stride-requires : goal.stride-requires
+stride-requires c = grind (arith, common_steps)
+
+pub has_next-requires : goal.has_next-requires
+has_next-requires c = grind (arith, common_steps)
+
+pub returns-clause-small : goal.returns-clause-small
+returns-clause-small c = grind (arith, common_steps)

@@ -76,3 +76,27 @@ pub fill-requires-clause-some : goal.fill-requires-clause-some
 fill-requires-clause-some c =
     let same = c.reach-reach.ensures.reach in
     omega (arith, ap (λ reach. reach.x.len) same, c.requires.some.w, c.requires.window.some.w)
+
+pub fill-requires-clause-inside : goal.fill-requires-clause-inside
+fill-requires-clause-inside c = grind (arith, common_steps)
+
+pub reach-reach-requires-clause-window : goal.reach-reach-requires-clause-window
+reach-reach-requires-clause-window c = grind (arith, common_steps)
+
+pub reach-reach-requires-clause-inside : goal.reach-reach-requires-clause-inside
+reach-reach-requires-clause-inside c = grind (arith, common_steps)
+
+pub reach-reach-requires-clause-small : goal.reach-reach-requires-clause-small
+reach-reach-requires-clause-small c = grind (arith, common_steps)
+
+pub put_rows-requires-clause-some : goal.put_rows-requires-clause-some
+put_rows-requires-clause-some c = grind (arith, common_steps)
+
+pub put_rows-requires-clause-small : goal.put_rows-requires-clause-small
+put_rows-requires-clause-small c = grind (arith, common_steps)
+
+pub less_one-requires-clause-some : goal.less_one-requires-clause-some
+less_one-requires-clause-some c = grind (arith, common_steps)
+
+pub less_one-requires-clause-lens : goal.less_one-requires-clause-lens
+less_one-requires-clause-lens c = grind (arith, common_steps)

@@ -1,3 +1,4 @@
+use Rattle.std.proofs.lemmas.Grind.{common_steps}
 use Rattle.std.proofs.Common.{◌≡◌, ◌<◌, ◌+◌, ◌-◌, drop, length, sym, subst, arith, length-take, length-drop}
 use Rattle.cost_windows.specs.Slides.{number_if, row_offset, row_start}
 use Rattle.cost_windows.proofs.Rows.{frame_below, offset_ends, row_before, row_below, row_ends, row_more, rows_apart, rows_put}
@@ -64,3 +65,39 @@ pub slice_bounds-put_row-end-in-loop-row : goal.slice_bounds-put_row-end-in-loop
 slice_bounds-put_row-end-in-loop-row c =
     let room = c.requires.room in
     omega (arith, c.index-from.ensures.index, offset_ends c.args.size c.args.block.now c.loop-row.row room.0 room.1 room.2 c.loop-row-test.true, c.requires.more)
+
+pub nonzero_div-f : goal.nonzero_div-f
+nonzero_div-f c = grind (arith, common_steps)
+
+pub nonzero_rem-y : goal.nonzero_rem-y
+nonzero_rem-y c = grind (arith, common_steps)
+
+pub put_row-requires-clause-lengths : goal.put_row-requires-clause-lengths
+put_row-requires-clause-lengths c = grind (arith, common_steps)
+
+pub overflow_mul-rows : goal.overflow_mul-rows
+overflow_mul-rows c = grind (arith, common_steps)
+
+pub overflow_add-first-in-loop-row : goal.overflow_add-first-in-loop-row
+overflow_add-first-in-loop-row c = grind (arith, common_steps)
+
+pub overflow_add-from : goal.overflow_add-from
+overflow_add-from c = grind (arith, common_steps)
+
+pub offset_bounds-more-from : goal.offset_bounds-more-from
+offset_bounds-more-from c = grind (arith, common_steps)
+
+pub index-from-requires-clause-small : goal.index-from-requires-clause-small
+index-from-requires-clause-small c = grind (arith, common_steps)
+
+pub overflow_add-to : goal.overflow_add-to
+overflow_add-to c = grind (arith, common_steps)
+
+pub offset_bounds-sums-to : goal.offset_bounds-sums-to
+offset_bounds-sums-to c = grind (arith, common_steps)
+
+pub slice_bounds-put_row-count-in-loop-row : goal.slice_bounds-put_row-count-in-loop-row
+slice_bounds-put_row-count-in-loop-row c = grind (arith, common_steps)
+
+pub index-to-requires-clause-small : goal.index-to-requires-clause-small
+index-to-requires-clause-small c = grind (arith, common_steps)

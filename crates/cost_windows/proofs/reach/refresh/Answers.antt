@@ -45,3 +45,24 @@ add_axis-requires-2-clause-fits c = grind (arith, common_steps)
 
 pub add_axis-requires-clause-fits : goal.add_axis-requires-clause-fits
 add_axis-requires-clause-fits c = grind (arith, common_steps)
+
+pub add_axis-requires-2-clause-scratch : goal.add_axis-requires-2-clause-scratch
+add_axis-requires-2-clause-scratch c = grind (arith, common_steps)
+
+pub add_axis-requires-2-clause-sums : goal.add_axis-requires-2-clause-sums
+add_axis-requires-2-clause-sums c = grind (arith, common_steps)
+
+pub add_axis-requires-clause-scratch : goal.add_axis-requires-clause-scratch
+add_axis-requires-clause-scratch c = grind (arith, common_steps)
+
+pub add_axis-requires-clause-sums : goal.add_axis-requires-clause-sums
+add_axis-requires-clause-sums c = grind (arith, common_steps)
+
+pub add_axis-requires-2-clause-window : goal.add_axis-requires-2-clause-window
+add_axis-requires-2-clause-window c = grind (arith, common_steps)
+
+pub add_axis-requires-2-clause-some : goal.add_axis-requires-2-clause-some
+add_axis-requires-2-clause-some c = grind (arith, common_steps)
+
+pub add_axis-requires-2-clause-inside : goal.add_axis-requires-2-clause-inside
+add_axis-requires-2-clause-inside c = grind (arith, common_steps)

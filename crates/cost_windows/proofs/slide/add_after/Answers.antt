@@ -10,3 +10,6 @@ entries-init c = grind (arith, common_steps)
 
 pub overflow_add-buffer-in-entries : goal.overflow_add-buffer-in-entries
 overflow_add-buffer-in-entries c = grind (arith, common_steps)
+
+pub returns : goal.returns
+returns c = grind (arith, common_steps)

@@ -46,3 +46,12 @@ returns-clause-small c =
 
 pub sum_runs-requires-3-clause-step_small : goal.sum_runs-requires-3-clause-step_small
 sum_runs-requires-3-clause-step_small c = grind (arith, common_steps)
+
+pub sum_runs-requires-3-clause-step : goal.sum_runs-requires-3-clause-step
+sum_runs-requires-3-clause-step c = grind (arith, common_steps)
+
+pub overflow_mul-w : goal.overflow_mul-w
+overflow_mul-w c = grind (arith, common_steps)
+
+pub sum_runs-requires-clause-small : goal.sum_runs-requires-clause-small
+sum_runs-requires-clause-small c = grind (arith, common_steps)

@@ -1,3 +1,4 @@
+use Rattle.std.proofs.lemmas.Grind.{common_steps}
 use Rattle.std.proofs.Common.{◌<◌, ◌*◌, arith}
 use Rattle.std.proofs.Math.Nat.{mul-le-mul_left}
 use Rattle.cost_windows.proofs.RowTops.{greatest_of_rows}
@@ -12,3 +13,24 @@ slice_bounds-greatest-end c =
     let size = c.args.size in
     let row : c.greatest-r.result < size.h * size.f = omega (arith, c.greatest-r.ensures.below, c.requires.tops.count) in
     omega (arith, c.requires.sums, mul-le-mul_left size.w row)
+
+pub offset_bounds-sums-w : goal.offset_bounds-sums-w
+offset_bounds-sums-w c = grind (arith, common_steps)
+
+pub overflow_add-result : goal.overflow_add-result
+overflow_add-result c = grind (arith, common_steps)
+
+pub overflow_mul-result : goal.overflow_mul-result
+overflow_mul-result c = grind (arith, common_steps)
+
+pub greatest-r-requires : goal.greatest-r-requires
+greatest-r-requires c = grind (arith, common_steps)
+
+pub overflow_mul-w-2 : goal.overflow_mul-w-2
+overflow_mul-w-2 c = grind (arith, common_steps)
+
+pub overflow_add-w : goal.overflow_add-w
+overflow_add-w c = grind (arith, common_steps)
+
+pub overflow_mul-w : goal.overflow_mul-w
+overflow_mul-w c = grind (arith, common_steps)

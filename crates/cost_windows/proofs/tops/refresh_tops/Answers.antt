@@ -30,3 +30,24 @@ fill_tops-requires-clause-end c = grind (arith, common_steps)
 
 pub fill_tops-requires-clause-rows : goal.fill_tops-requires-clause-rows
 fill_tops-requires-clause-rows c = grind (arith, common_steps)
+
+pub overflow_add-last-4 : goal.overflow_add-last-4
+overflow_add-last-4 c = grind (arith, common_steps)
+
+pub overflow_add-last-3 : goal.overflow_add-last-3
+overflow_add-last-3 c = grind (arith, common_steps)
+
+pub overflow_mul-last : goal.overflow_mul-last
+overflow_mul-last c = grind (arith, common_steps)
+
+pub overflow_add-from : goal.overflow_add-from
+overflow_add-from c = grind (arith, common_steps)
+
+pub overflow_mul-from : goal.overflow_mul-from
+overflow_mul-from c = grind (arith, common_steps)
+
+pub fill_tops-requires-clause-width : goal.fill_tops-requires-clause-width
+fill_tops-requires-clause-width c = grind (arith, common_steps)
+
+pub overflow_cast-size : goal.overflow_cast-size
+overflow_cast-size c = grind (arith, common_steps)

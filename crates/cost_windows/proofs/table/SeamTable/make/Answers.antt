@@ -76,3 +76,21 @@ returns-clause-sizes c = grind (arith, common_steps)
 
 pub refresh_tops-requires-clause-sums : goal.refresh_tops-requires-clause-sums
 refresh_tops-requires-clause-sums c = grind (arith, common_steps)
+
+pub refresh_tops-requires-clause-tops : goal.refresh_tops-requires-clause-tops
+refresh_tops-requires-clause-tops c = grind (arith, common_steps)
+
+pub refresh_tops-requires-clause-inside : goal.refresh_tops-requires-clause-inside
+refresh_tops-requires-clause-inside c = grind (arith, common_steps)
+
+pub corners-corners-requires-clause-window : goal.corners-corners-requires-clause-window
+corners-corners-requires-clause-window c = grind (arith, common_steps)
+
+pub corners-corners-requires-clause-small : goal.corners-corners-requires-clause-small
+corners-corners-requires-clause-small c = grind (arith, common_steps)
+
+pub overflow_cast-corners-2 : goal.overflow_cast-corners-2
+overflow_cast-corners-2 c = grind (arith, common_steps)
+
+pub overflow_cast-corners : goal.overflow_cast-corners
+overflow_cast-corners c = grind (arith, common_steps)

@@ -112,3 +112,9 @@ refresh-requires-clause-inside c = grind (arith, common_steps)
 
 pub refresh-requires-clause-some : goal.refresh-requires-clause-some
 refresh-requires-clause-some c = grind (arith, common_steps)
+
+pub returns-then-has_cells-clause-sizes : goal.returns-then-has_cells-clause-sizes
+returns-then-has_cells-clause-sizes c = grind (arith, common_steps)
+
+pub refresh_tops-requires-clause-inside : goal.refresh_tops-requires-clause-inside
+refresh_tops-requires-clause-inside c = grind (arith, common_steps)

@@ -22,3 +22,6 @@ greatest_by_rows-i-requires-clause-sums c = grind (arith, common_steps)
 
 pub place_at-requires-clause-below : goal.place_at-requires-clause-below
 place_at-requires-clause-below c = grind (arith, common_steps)
+
+pub greatest_by_rows-i-requires-clause-tops : goal.greatest_by_rows-i-requires-clause-tops
+greatest_by_rows-i-requires-clause-tops c = grind (arith, common_steps)

@@ -13,19 +13,6 @@ const MARKS: [u8; 64] = [
     1, 1, 1, 1, 1, 1, 1, 1, 1, 1, 1, 1, 1, 1, 1, 1, 1, 1, 1, 1, 1, 1, 1, 1, 1, 1, 1, 1, 1, 1, 1, 1,
 ];
 
-// The sum over the last n bytes, as a block whose other bytes don't count.
-fn last_differences(old: &[u8], new: &[u8], n: usize) -> u64
-    requires same_length { length old.now ≡ length new.now }
-    requires block { BLOCK ≤ length old.now }
-    requires few { n ≤ BLOCK }
-    ensures sum { result ≡ sum_of_squared_differences
-        (drop (length old.now - n) old.now) (drop (length new.now - n) new.now) }
-    ensures small { result ≤ 255 * 255 * BLOCK }
-{
-    let start = old.len() - BLOCK;
-    ssd_masked(&old[start..], &new[start..], &MARKS[n..n + BLOCK])
-}
-
 /// The sum of the squared differences of two runs of bytes. Where they have a block or more, what is left
 /// after the last whole block is summed as one more block that ends with them, in which the bytes that
 /// were summed before are masked: the loops over fewer bytes would take longer.
@@ -44,5 +31,6 @@ pub(crate) fn squared_differences(old: &[u8], new: &[u8]) -> u64
     if rest == 0 {
         return sum;
     }
-    sum + last_differences(old, new, rest)
+    let last = len - BLOCK;
+    sum + ssd_masked(&old[last..], &new[last..], &MARKS[rest..rest + BLOCK])
 }

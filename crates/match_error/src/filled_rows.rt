@@ -71,15 +71,6 @@ fn add_row(
     Ok(())
 }
 
-// The runs from one number on and before another.
-fn runs_between(runs: &[RowRun], start: usize, end: usize) -> &[RowRun]
-    requires order { start ≤ end }
-    requires within { end ≤ length runs.now }
-    ensures { result.now ≡ take (end - start) (drop start runs.now) }
-{
-    &runs[start..end]
-}
-
 impl FilledRows {
     /// The filled cells of a box inside the output. They take 8 bytes for each run of filled cells of a
     /// row, and 8 for each row. The one error is out of memory.
@@ -141,7 +132,6 @@ impl FilledRows {
         let starts = self.starts.as_slice();
         let start = starts[row as usize];
         let end = starts[row as usize + 1];
-        let all = self.runs.as_slice();
-        runs_between(all, start, end)
+        &self.runs.as_slice()[start..end]
     }
 }

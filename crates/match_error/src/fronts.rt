@@ -51,8 +51,8 @@ pub(crate) fn cells_from(sample: &Volume, i: usize, n: u32) -> &[u8]
     &bytes[start..start + len]
 }
 
-// Where a box with this corner begins; None where that isn't in the first part.
-fn front_of(volume: &Volume, corner: At) -> Option<Front>
+/// Where a box with this corner begins; None where that isn't in the first part.
+pub(crate) fn front_of(volume: &Volume, corner: At) -> Option<Front>
     ensures { IfSome result (IsFront volume.now corner) }
 {
     let part = first_size(volume);
@@ -65,16 +65,6 @@ fn front_of(volume: &Volume, corner: At) -> Option<Front>
 pub(crate) struct Fronts {
     pub(crate) old: Option<Front>,
     pub(crate) new: Option<Front>,
-}
-
-/// Where the box of a placement does.
-pub(crate) fn fronts_of(canvas: &Canvas, sample: &Volume, placement: &Placement) -> Fronts
-    ensures { AreFronts canvas.now sample.now placement.now result }
-{
-    Fronts {
-        old: front_of(canvas.picture(), placement.rect.corner),
-        new: front_of(sample, placement.from),
-    }
 }
 
 /// The bytes of a row of a box of this size. A place costs more than an index, which each row has by

@@ -11,7 +11,7 @@ ghost use Rattle.match_error.specs.Rows.{AreFilledRows, AreLaidRuns, IsInset, Is
 use crate::bytes::squared_differences;
 use crate::counts::filled_count;
 use crate::filled_rows::{Inset, RowRun};
-use crate::fronts::{Fronts, box_row, fronts_of};
+use crate::fronts::{Fronts, box_row, front_of};
 use crate::rows::row_start;
 use crate::{Error, FilledRows};
 use cells::{Box3, Volume};
@@ -204,7 +204,10 @@ fn box_sum_within(
     // Called for their contracts only: they show the prover that these are a map and a volume.
     let _map = canvas.map();
     let _sample = sample.samples();
-    let fronts = fronts_of(canvas, sample, placement);
+    let fronts = Fronts {
+        old: front_of(canvas.picture(), placement.rect.corner),
+        new: front_of(sample, placement.from),
+    };
     let mut sum: u64 = 0;
     for f in 0..placement.rect.size.f {
         sum = with_frame(

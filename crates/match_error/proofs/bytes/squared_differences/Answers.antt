@@ -1,5 +1,6 @@
-use Rattle.std.proofs.Common.{◌≡◌, ◌+◌, ◌-◌, ◌%◌, length, arith}
-use Rattle.match_error.proofs.Blocks.{both_parts, one_part}
+use Rattle.std.proofs.Common.{◌≡◌, ◌≤◌, ◌+◌, ◌-◌, ◌%◌, ◌∙◌, length, arith}
+use Rattle.std.proofs.lemmas.Grind.{common_steps}
+use Rattle.match_error.proofs.Blocks.{both_parts, last_block, marks_piece, one_part}
 use Rattle.match_error.proofs.bytes.squared_differences.Goals as goal
 
 pub returns-then-rest-eq0 : goal.returns-then-rest-eq0
@@ -10,7 +11,12 @@ returns-then-rest-eq0 c =
 pub returns : goal.returns
 returns c =
     let len = length c.args.old.now in
-    both_parts c.args.old.now c.args.new.now (len - len % 32) (len % 32) c.ssd-sum.result c.last_differences.result c.requires.same_length (let e : (len - len % 32) + len % 32 ≡ len = omega arith in e) c.ssd-sum.ensures.sum c.last_differences.ensures.sum
+    let few : len % 32 ≤ 32 = omega arith in
+    let last = c.ssd_masked.ensures.sum ∙ last_block c.args.old.now c.args.new.now _ 32 (len % 32) c.requires.same_length (omega arith) few (marks_piece 32 (len % 32) few) in
+    both_parts c.args.old.now c.args.new.now (len - len % 32) (len % 32) c.ssd-sum.result c.ssd_masked.result c.requires.same_length (let e : (len - len % 32) + len % 32 ≡ len = omega arith in e) c.ssd-sum.ensures.sum last
 
-pub last_differences-requires-clause-same_length : goal.last_differences-requires-clause-same_length
-last_differences-requires-clause-same_length c = c.requires.same_length
+pub ssd_masked-requires-clause-mask_length : goal.ssd_masked-requires-clause-mask_length
+ssd_masked-requires-clause-mask_length c = grind (arith, common_steps)
+
+pub ssd_masked-requires-clause-same_length : goal.ssd_masked-requires-clause-same_length
+ssd_masked-requires-clause-same_length c = omega (arith, c.requires.same_length)

@@ -1,4 +1,4 @@
-use Rattle.std.proofs.Common.{◌≤◌, ◌<◌, ◌+◌, ◌*◌, ◌-◌, ◌/◌, ◌%◌, List, ℕ, length, get_or, take, drop, subst, sym, ◌∙◌, arith}
+use Rattle.std.proofs.Common.{◌≤◌, ◌<◌, ◌+◌, ◌*◌, ◌-◌, ◌/◌, ◌%◌, List, ℕ, length, get_or, take, drop, subst, sym, arith}
 use Rattle.match_error.specs.declared.filled_rows.RowRun.{RowRun}
 use Rattle.match_error.specs.Rows.{AreRunsOf, IsFilledAt}
 use Rattle.match_error.proofs.RowRuns.{laid_runs, row_below}
@@ -20,33 +20,14 @@ overflow_add-row-3 c =
     let outer = c.args.self.now.rect in
     omega (arith, row_below outer c.args.rect.now c.args.inset c.args.y c.args.f c.requires.inset c.requires.row.0 c.requires.row.1, few_rows c.args.canvas.now.map outer c.map-map.ensures.canvas.map.small c.requires.rows.inside)
 
-pub runs_between-requires-clause-order : goal.runs_between-requires-clause-order
-runs_between-requires-clause-order c =
-    let outer = c.args.self.now.rect in
-    let row = (c.args.inset.y + outer.size.h * (c.args.inset.f + c.args.f)) + c.args.y in
-    let below : row < outer.size.h * outer.size.f = omega (arith, row_below outer c.args.rect.now c.args.inset c.args.y c.args.f c.requires.inset c.requires.row.0 c.requires.row.1) in
-    subst (λ (starts : List ℕ). get_or starts row 0 ≤ get_or starts (row + 1) 0) (sym c.as_slice-starts.ensures.value)
-    (c.requires.rows.runs.each row below).order
-
-pub runs_between-requires-clause-within : goal.runs_between-requires-clause-within
-runs_between-requires-clause-within c =
-    let outer = c.args.self.now.rect in
-    let row = (c.args.inset.y + outer.size.h * (c.args.inset.f + c.args.f)) + c.args.y in
-    let below : row < outer.size.h * outer.size.f = omega (arith, row_below outer c.args.rect.now c.args.inset c.args.y c.args.f c.requires.inset c.requires.row.0 c.requires.row.1) in
-    subst (λ (starts : List ℕ). get_or starts (row + 1) 0 ≤ length c.as_slice-all.result.now) (sym c.as_slice-starts.ensures.value)
-    (subst (λ (runs : List RowRun). get_or c.args.self.now.starts.items (row + 1) 0 ≤ length runs) (sym c.as_slice-all.ensures.value)
-    (c.requires.rows.runs.each row below).within)
-
 pub returns : goal.returns
 returns c =
     let outer = c.args.self.now.rect in
     let row = (c.args.inset.y + outer.size.h * (c.args.inset.f + c.args.f)) + c.args.y in
     let below : row < outer.size.h * outer.size.f = omega (arith, row_below outer c.args.rect.now c.args.inset c.args.y c.args.f c.requires.inset c.requires.row.0 c.requires.row.1) in
-    laid_runs c.args.canvas.now.map outer c.args.rect.now c.args.inset c.args.y c.args.f c.runs_between.result.now c.requires.inset c.requires.row.0
+    laid_runs c.args.canvas.now.map outer c.args.rect.now c.args.inset c.args.y c.args.f _ c.requires.inset c.requires.row.0
     (subst (λ (runs : List RowRun). AreRunsOf (IsFilledAt c.args.canvas.now.map outer (row % outer.size.h) (row / outer.size.h)) 0 outer.size.w runs)
-    (sym
-    (c.runs_between.ensures
-    ∙ (λ k. take (get_or (c.as_slice-starts.ensures.value k) (row + 1) 0 - get_or (c.as_slice-starts.ensures.value k) row 0) (drop (get_or (c.as_slice-starts.ensures.value k) row 0) (c.as_slice-all.ensures.value k)))))
+    (sym (λ k. take (get_or (c.as_slice-starts.ensures.value k) (row + 1) 0 - get_or (c.as_slice-starts.ensures.value k) row 0) (drop (get_or (c.as_slice-starts.ensures.value k) row 0) (c.as_slice.ensures.value k))))
     (c.requires.rows.runs.each row below).are)
 
 pub bounds-starts-row-2 : goal.bounds-starts-row-2
@@ -66,3 +47,22 @@ bounds-starts-row c =
       c.as_slice-starts.ensures.len,
       c.requires.rows.runs.long,
     )
+
+pub slice_bounds-result-count : goal.slice_bounds-result-count
+slice_bounds-result-count c =
+    let outer = c.args.self.now.rect in
+    let row = (c.args.inset.y + outer.size.h * (c.args.inset.f + c.args.f)) + c.args.y in
+    let below : row < outer.size.h * outer.size.f = omega (arith, row_below outer c.args.rect.now c.args.inset c.args.y c.args.f c.requires.inset c.requires.row.0 c.requires.row.1) in
+    subst (λ (starts : List ℕ). get_or starts row 0 ≤ get_or starts (row + 1) 0) (sym c.as_slice-starts.ensures.value)
+    (c.requires.rows.runs.each row below).order
+
+pub slice_bounds-result-start : goal.slice_bounds-result-start
+slice_bounds-result-start c =
+    let outer = c.args.self.now.rect in
+    let row = (c.args.inset.y + outer.size.h * (c.args.inset.f + c.args.f)) + c.args.y in
+    let below : row < outer.size.h * outer.size.f = omega (arith, row_below outer c.args.rect.now c.args.inset c.args.y c.args.f c.requires.inset c.requires.row.0 c.requires.row.1) in
+    let within : get_or c.as_slice-starts.result.now (row + 1) 0 ≤ length c.as_slice.result.now =
+    subst (λ (starts : List ℕ). get_or starts (row + 1) 0 ≤ length c.as_slice.result.now) (sym c.as_slice-starts.ensures.value)
+    (subst (λ (runs : List RowRun). get_or c.args.self.now.starts.items (row + 1) 0 ≤ length runs) (sym c.as_slice.ensures.value)
+    (c.requires.rows.runs.each row below).within) in
+    omega (arith, slice_bounds-result-count c, within)

@@ -20,3 +20,18 @@ ssd_masked-requires-clause-mask_length c = grind (arith, common_steps)
 
 pub ssd_masked-requires-clause-same_length : goal.ssd_masked-requires-clause-same_length
 ssd_masked-requires-clause-same_length c = omega (arith, c.requires.same_length)
+
+pub overflow_add-result : goal.overflow_add-result
+overflow_add-result c = grind (arith, common_steps)
+
+pub ssd-sum-requires-clause-same_length : goal.ssd-sum-requires-clause-same_length
+ssd-sum-requires-clause-same_length c = grind (arith, common_steps)
+
+pub ssd_masked-requires-clause-within_limit : goal.ssd_masked-requires-clause-within_limit
+ssd_masked-requires-clause-within_limit c = grind (arith, common_steps)
+
+pub slice_bounds-ssd-end-2 : goal.slice_bounds-ssd-end-2
+slice_bounds-ssd-end-2 c = grind (arith, common_steps)
+
+pub slice_bounds-ssd-end : goal.slice_bounds-ssd-end
+slice_bounds-ssd-end c = grind (arith, common_steps)

@@ -1,3 +1,4 @@
+use Rattle.std.proofs.lemmas.Grind.{common_steps}
 use Rattle.std.proofs.Common.{ℕ, ◌+◌, sym, ◌∙◌, arith}
 use Rattle.cells.specs.Places.{plus, spot}
 use Rattle.boxes.specs.Sums.{sum_to}
@@ -15,3 +16,9 @@ loop-y-preserved c =
       count = (λ t. c.loop-y.invariant.count t + c.row_count-count.ensures.count t) ∙ sym (sum_more counts c.loop-y.y row);
       fits = omega (arith, c.loop-y.invariant.fits, c.row_count-count.ensures.small);
     }
+
+pub returns-clause-count : goal.returns-clause-count
+returns-clause-count c = grind (arith, common_steps)
+
+pub returns-clause-small : goal.returns-clause-small
+returns-clause-small c = grind (arith, common_steps)

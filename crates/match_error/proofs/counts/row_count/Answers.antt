@@ -1,3 +1,4 @@
+use Rattle.std.proofs.lemmas.Grind.{common_steps}
 use Rattle.std.proofs.Common.{arith, ◌∙◌, ◌/◌, ◌≤◌, ap, subst, sym}
 use Rattle.std.specs.Prelude.{sum}
 use Rattle.match_error.proofs.Overlaps.{row_short}
@@ -20,3 +21,12 @@ returns-clause-small c =
 
 pub mark_sum-requires : goal.mark_sum-requires
 mark_sum-requires c = omega (arith, c.filled_row.ensures.len, row_short c.args.canvas.now c.args.rect.now c.picture.ensures.canvas c.requires.inside)
+
+pub filled_row-requires-clause-room : goal.filled_row-requires-clause-room
+filled_row-requires-clause-room c = grind (arith, common_steps)
+
+pub row_start-at-requires-clause-fits : goal.row_start-at-requires-clause-fits
+row_start-at-requires-clause-fits c = grind (arith, common_steps)
+
+pub row_start-at-requires-clause-counts : goal.row_start-at-requires-clause-counts
+row_start-at-requires-clause-counts c = grind (arith, common_steps)

@@ -1,3 +1,4 @@
+use Rattle.std.proofs.lemmas.Grind.{common_steps}
 use Rattle.std.proofs.Common.{◌∙◌, ap, sym, subst, arith}
 use Rattle.std.specs.Prelude.{IfSome}
 use Rattle.cells.specs.Cells.{HasRun, run_from}
@@ -43,3 +44,6 @@ pub row-requires : goal.row-requires
 row-requires c =
     subst (λ p. HasRun c.args.volume.now p c.args.size.w) (sym c.row_start.ensures)
     (row_in_volume c.args.volume.now c.samples-samples.ensures.volume c.args.corner c.args.size c.args.y c.args.f c.requires.held c.requires.some.w c.requires.counts.0 c.requires.counts.1).run
+
+pub offset_in-requires-clause-axes : goal.offset_in-requires-clause-axes
+offset_in-requires-clause-axes c = grind (arith, common_steps)

@@ -1,3 +1,4 @@
+use Rattle.std.proofs.lemmas.Grind.{common_steps}
 use Rattle.std.proofs.Common.{◌≡◌, ◌+◌, ◌-◌, ◌*◌, ◌∙◌, ap, length, take, drop, arith}
 use Rattle.match_error.proofs.Offsets.{few_bytes, run_in_volume, within_bytes}
 use Rattle.match_error.proofs.fronts.cells_from.Goals as goal
@@ -31,3 +32,6 @@ overflow_add-result c =
     let k = c.samples-k.ensures.samples in
     let few = few_bytes c.args.sample.now c.samples-k.ensures.volume in
     omega (arith, ap (λ n. n * c.args.i) k, ap (λ n. n * c.args.n) k, few c.args.i (omega (arith, c.requires)), few c.args.n (omega (arith, c.requires)))
+
+pub returns-clause-len : goal.returns-clause-len
+returns-clause-len c = grind (arith, common_steps)

@@ -39,3 +39,36 @@ returns-clause-some c = grind (arith, common_steps)
 
 pub returns-in_err-sum-clause-some : goal.returns-in_err-sum-clause-some
 returns-in_err-sum-clause-some c = grind (arith, common_steps)
+
+pub returns-in_err-sum-clause-small : goal.returns-in_err-sum-clause-small
+returns-in_err-sum-clause-small c = grind (arith, common_steps)
+
+pub returns-in_err-sum-clause-most : goal.returns-in_err-sum-clause-most
+returns-in_err-sum-clause-most c = grind (arith, common_steps)
+
+pub with_frame-requires-clause-fronts : goal.with_frame-requires-clause-fronts
+with_frame-requires-clause-fronts c = grind (arith, common_steps)
+
+pub with_frame-requires-clause-count : goal.with_frame-requires-clause-count
+with_frame-requires-clause-count c = grind (arith, common_steps)
+
+pub returns-clause-most : goal.returns-clause-most
+returns-clause-most c = grind (arith, common_steps)
+
+pub with_frame-requires-clause-so_far : goal.with_frame-requires-clause-so_far
+with_frame-requires-clause-so_far c = grind (arith, common_steps)
+
+pub with_frame-requires-clause-fits : goal.with_frame-requires-clause-fits
+with_frame-requires-clause-fits c = grind (arith, common_steps)
+
+pub with_frame-requires-clause-inset : goal.with_frame-requires-clause-inset
+with_frame-requires-clause-inset c = grind (arith, common_steps)
+
+pub with_frame-requires-clause-filled : goal.with_frame-requires-clause-filled
+with_frame-requires-clause-filled c = grind (arith, common_steps)
+
+pub with_frame-requires-clause-over : goal.with_frame-requires-clause-over
+with_frame-requires-clause-over c = grind (arith, common_steps)
+
+pub with_frame-requires-clause-before : goal.with_frame-requires-clause-before
+with_frame-requires-clause-before c = grind (arith, common_steps)

@@ -46,3 +46,12 @@ ssd_masked-requires-clause-mask_length c = grind (arith, common_steps)
 
 pub filled_row-marks-requires-clause-room : goal.filled_row-marks-requires-clause-room
 filled_row-marks-requires-clause-room c = grind (arith, common_steps)
+
+pub row_start-from-requires-clause-counts : goal.row_start-from-requires-clause-counts
+row_start-from-requires-clause-counts c = grind (arith, common_steps)
+
+pub row_start-at-requires-clause-fits : goal.row_start-at-requires-clause-fits
+row_start-at-requires-clause-fits c = grind (arith, common_steps)
+
+pub row_start-at-requires-clause-counts : goal.row_start-at-requires-clause-counts
+row_start-at-requires-clause-counts c = grind (arith, common_steps)

@@ -48,3 +48,6 @@ returns-in-Some-clause-small c = c.runs_sum.ensures.small
 
 pub returns-in-Some-clause-sum : goal.returns-in-Some-clause-sum
 returns-in-Some-clause-sum c = c.runs_sum.ensures.sum
+
+pub runs_of-runs-requires-clause-rows : goal.runs_of-runs-requires-clause-rows
+runs_of-runs-requires-clause-rows c = grind (arith, common_steps)

@@ -17,3 +17,6 @@ returns-clause-small c = omega (arith, c.loop-y.invariant.fits, c.loop-y.auto.y-
 
 pub loop-y-preserved : goal.loop-y-preserved
 loop-y-preserved c = grind (arith, common_steps)
+
+pub returns-clause-some : goal.returns-clause-some
+returns-clause-some c = grind (arith, common_steps)

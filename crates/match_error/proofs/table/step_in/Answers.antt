@@ -13,3 +13,6 @@ overflow_cast-result c = grind (arith, common_steps)
 
 pub overflow_add-step : goal.overflow_add-step
 overflow_add-step c = grind (arith, common_steps)
+
+pub overflow_sub-step : goal.overflow_sub-step
+overflow_sub-step c = grind (arith, common_steps)

@@ -22,3 +22,9 @@ returns c =
 
 pub returns-in_err-frames : goal.returns-in_err-frames
 returns-in_err-frames c = grind (arith, common_steps)
+
+pub returns-in_err-down : goal.returns-in_err-down
+returns-in_err-down c = grind (arith, common_steps)
+
+pub returns-in_err-across : goal.returns-in_err-across
+returns-in_err-across c = grind (arith, common_steps)

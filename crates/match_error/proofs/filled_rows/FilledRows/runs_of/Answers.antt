@@ -1,3 +1,4 @@
+use Rattle.std.proofs.lemmas.Grind.{common_steps}
 use Rattle.std.proofs.Common.{◌≤◌, ◌<◌, ◌+◌, ◌*◌, ◌-◌, ◌/◌, ◌%◌, List, ℕ, length, get_or, take, drop, subst, sym, arith}
 use Rattle.match_error.specs.declared.filled_rows.RowRun.{RowRun}
 use Rattle.match_error.specs.Rows.{AreRunsOf, IsFilledAt}
@@ -56,8 +57,8 @@ slice_bounds-result-count c =
     subst (λ (starts : List ℕ). get_or starts row 0 ≤ get_or starts (row + 1) 0) (sym c.as_slice-starts.ensures.value)
     (c.requires.rows.runs.each row below).order
 
-pub slice_bounds-result-start : goal.slice_bounds-result-start
-slice_bounds-result-start c =
+pub slice_bounds-result-end : goal.slice_bounds-result-end
+slice_bounds-result-end c =
     let outer = c.args.self.now.rect in
     let row = (c.args.inset.y + outer.size.h * (c.args.inset.f + c.args.f)) + c.args.y in
     let below : row < outer.size.h * outer.size.f = omega (arith, row_below outer c.args.rect.now c.args.inset c.args.y c.args.f c.requires.inset c.requires.row.0 c.requires.row.1) in
@@ -65,4 +66,19 @@ slice_bounds-result-start c =
     subst (λ (starts : List ℕ). get_or starts (row + 1) 0 ≤ length c.as_slice.result.now) (sym c.as_slice-starts.ensures.value)
     (subst (λ (runs : List RowRun). get_or c.args.self.now.starts.items (row + 1) 0 ≤ length runs) (sym c.as_slice.ensures.value)
     (c.requires.rows.runs.each row below).within) in
-    omega (arith, slice_bounds-result-count c, within)
+    omega (arith, within)
+
+pub slice_bounds-result-start : goal.slice_bounds-result-start
+slice_bounds-result-start c = omega (arith, slice_bounds-result-count c, slice_bounds-result-end c)
+
+pub offset_bounds-as_slice-start : goal.offset_bounds-as_slice-start
+offset_bounds-as_slice-start c = omega (arith, slice_bounds-result-count c, slice_bounds-result-end c)
+
+pub overflow_add-row : goal.overflow_add-row
+overflow_add-row c = grind (arith, common_steps)
+
+pub offset_bounds-starts-row-2 : goal.offset_bounds-starts-row-2
+offset_bounds-starts-row-2 c = grind (arith, common_steps)
+
+pub overflow_add-end : goal.overflow_add-end
+overflow_add-end c = grind (arith, common_steps)

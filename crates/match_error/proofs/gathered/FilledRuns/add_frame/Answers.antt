@@ -4,3 +4,6 @@ use Rattle.match_error.proofs.gathered.FilledRuns.add_frame.Goals as goal
 
 pub loop-y-preserved : goal.loop-y-preserved
 loop-y-preserved c = grind (arith, common_steps)
+
+pub returns-clause-adds : goal.returns-clause-adds
+returns-clause-adds c = grind (arith, common_steps)

@@ -49,3 +49,15 @@ overflow_add-x c = omega arith
 
 pub overflow_add-x-else-n-gt0 : goal.overflow_add-x-else-n-gt0
 overflow_add-x-else-n-gt0 c = omega arith
+
+pub filled_from-n-requires-clause-fits : goal.filled_from-n-requires-clause-fits
+filled_from-n-requires-clause-fits c = grind (arith, common_steps)
+
+pub plus-requires : goal.plus-requires
+plus-requires c = grind (arith, common_steps)
+
+pub filled_from-n-requires-clause-few : goal.filled_from-n-requires-clause-few
+filled_from-n-requires-clause-few c = grind (arith, common_steps)
+
+pub step_to-requires : goal.step_to-requires
+step_to-requires c = grind (arith, common_steps)

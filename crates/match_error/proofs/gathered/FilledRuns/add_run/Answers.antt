@@ -37,3 +37,9 @@ row-old-requires c = grind (arith, common_steps)
 
 pub plus-requires : goal.plus-requires
 plus-requires c = grind (arith, common_steps)
+
+pub step_to-step-requires : goal.step_to-step-requires
+step_to-step-requires c = grind (arith, common_steps)
+
+pub offset_in-offset-requires-clause-counts : goal.offset_in-offset-requires-clause-counts
+offset_in-offset-requires-clause-counts c = grind (arith, common_steps)

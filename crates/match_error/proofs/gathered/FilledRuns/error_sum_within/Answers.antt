@@ -63,3 +63,9 @@ run_sum-sum-requires-clause-sources c = c.requires.fits.sources
 
 pub run_sum-sum-requires-clause-front : goal.run_sum-sum-requires-clause-front
 run_sum-sum-requires-clause-front c = c.front_index-front.ensures
+
+pub run_sum-sum-requires-clause-volume : goal.run_sum-sum-requires-clause-volume
+run_sum-sum-requires-clause-volume c = grind (arith, common_steps)
+
+pub returns-clause-most : goal.returns-clause-most
+returns-clause-most c = grind (arith, common_steps)

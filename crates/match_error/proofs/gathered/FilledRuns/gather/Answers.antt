@@ -1,3 +1,4 @@
+use Rattle.std.proofs.lemmas.Grind.{common_steps}
 use Rattle.std.proofs.Common.{◌≡◌, ℕ, ◌+◌, length, ap, subst, sym, ◌∙◌, arith}
 use Rattle.std.specs.Prelude.{All}
 use Rattle.std.specs.List.{sum_by}
@@ -38,3 +39,6 @@ loop-f-init c =
       runs = record { axes = c.first_size-part.ensures.small.axes; each = subst (All (IsRunIn c.args.canvas.now.picture.k c.args.rect.now c.first_size-part.result (length c.new-2.result.items))) (sym c.new.ensures.items) (λ k d lt. absurd (omega arith)) };
       error = λ sample from laid. ap (sum_by (run_error c.new-2.result.items sample from)) c.new.ensures.items;
     }
+
+pub add_frame-requires-clause-runs : goal.add_frame-requires-clause-runs
+add_frame-requires-clause-runs c = grind (arith, common_steps)

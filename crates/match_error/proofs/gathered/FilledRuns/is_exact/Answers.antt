@@ -10,3 +10,6 @@ returns c = grind (arith, common_steps)
 
 pub is_same-requires-clause-run : goal.is_same-requires-clause-run
 is_same-requires-clause-run c = grind (arith, common_steps)
+
+pub returns-then-not-is_same : goal.returns-then-not-is_same
+returns-then-not-is_same c = grind (arith, common_steps)

@@ -1,3 +1,4 @@
+use Rattle.std.proofs.lemmas.Grind.{common_steps}
 use Rattle.std.proofs.Common.{◌≤◌, ℕ, length, arith}
 use Rattle.std.proofs.Math.Nat.{mul-le-mul}
 use Rattle.std.proofs.lemmas.List.{length-take}
@@ -15,3 +16,6 @@ ssd-requires-clause-within_limit c =
 
 pub ssd-requires-clause-same_length : goal.ssd-requires-clause-same_length
 ssd-requires-clause-same_length c = omega arith
+
+pub returns : goal.returns
+returns c = grind (arith, common_steps)

@@ -43,3 +43,6 @@ returns-in_default-clause-small c = c.filled_count.ensures.small
 
 pub returns-in_default-clause-count : goal.returns-in_default-clause-count
 returns-in_default-clause-count c = c.filled_count.ensures.count
+
+pub filled_count-requires : goal.filled_count-requires
+filled_count-requires c = grind (arith, common_steps)

@@ -1,0 +1,6 @@
+use Rattle.std.proofs.Common.{arith}
+use Rattle.std.proofs.lemmas.Grind.{common_steps}
+use Rattle.match_error.proofs.gathered.FilledRuns.front_index.Goals as goal
+
+pub returns-then-part-self-2 : goal.returns-then-part-self-2
+returns-then-part-self-2 c = grind (arith, common_steps)

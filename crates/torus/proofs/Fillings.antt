@@ -1,18 +1,23 @@
 -- A small canvas is filled cell by cell.
-use Rattle.std.proofs.Common.{◌≡◌, ℕ, ◌+◌, ◌<◌, ◌≤◌, ◌⊎◌, inl, inr, ⊎_elim, refl, ap, sym, ◌∙◌, subst, arith, Bool, true, false}
-use Rattle.std.proofs.lemmas.Int.{ints}
+use Rattle.std.proofs.Common.{◌≡◌, ℕ, ◌+◌, ◌<◌, ◌≤◌, ◌⊎◌, inl, inr, ⊎_elim, refl, ap, sym, ◌∙◌, subst, arith, Bool, true, false, w32, to_z, of_z}
+use Rattle.std.proofs.lemmas.Int.{ints, to_z-of_z}
+use mir.Val.{SFits}
 use Rattle.std.proofs.lemmas.Bool.{cases_eq, cases_lt}
-use Rattle.std.specs.Prelude.{ℤ, pos, ◌≤ℤ◌, ◌<ℤ◌, Some, None, is_some, unwrap_or}
+use Rattle.std.specs.Prelude.{ℤ, pos, ◌+ℤ◌, ◌-ℤ◌, ◌≤ℤ◌, ◌<ℤ◌, Some, None, is_some, unwrap_or}
 use Rattle.cells.specs.declared.place.At.{At}
 use Rattle.cells.specs.declared.place.Box3.{Box3}
+use Rattle.cells.specs.declared.place.Size.{Size}
 use Rattle.cells.specs.Places.{IsInside, cell_count, index_in, place_of}
 use Rattle.cells.proofs.BoxTests.{of_inside, on_axis_bounds}
+use Rattle.cells.proofs.SizeLaws.{near_back}
 use Rattle.cells.proofs.Raster.{has_index, index_below, one_place, place_at}
 use Rattle.map_canvas.specs.Maps.{SourceMap, IsMap, empty_map, map_at}
 use Rattle.map_canvas.proofs.EmptyAndFull.{map_at-empty}
 use Rattle.job_words.specs.declared.tile.Wrap.{Wrap}
 use Rattle.torus.specs.Filling.{IsFilledTo, IsNamedAt}
-use Rattle.torus.specs.Tiles.{AxisTakes, IsSmallMap, output_cell, small_size}
+use Rattle.boxes.specs.Pairs.{one_if}
+use Rattle.torus.specs.Tiles.{AxisTakes, IsSmallMap, Takes, has_before, output_cell, small_size}
+use Rattle.torus.specs.Wraps.{around_axis}
 
 pub index_is : (m : SourceMap) (i : ℕ) → IsMap m → i < cell_count m.size → index_in m.size (place_of m.size i) ≡ Some i
 index_is m i is lt = place_at m.size i is.small.axes.w.0 is.small.axes.h.0 lt
@@ -83,6 +88,18 @@ pub takes_near : (wrapped : Bool) (n : ℕ) (corner : ℤ) (len : ℕ) → AxisT
 takes_near true n corner len takes le = (takes.0, omega (arith, ints, takes.1), omega (arith, takes.2))
 takes_near false n corner len takes le = (takes.0, omega (arith, ints, takes.1), omega (arith, ints, takes.0, takes.1))
 
+-- coordinates that are near come back from 32 bits as they are
+near_too : (corner z : ℤ) (n : ℕ) → pos 0 ≤ℤ corner → corner ≤ℤ pos 4096 → pos 0 ≤ℤ z → z <ℤ pos 4096 → n ≤ 4096
+    → (pos 0 ≤ℤ to_z w32 (of_z w32 corner)) × (to_z w32 (of_z w32 corner) ≤ℤ pos 4096) × (pos 0 ≤ℤ to_z w32 (of_z w32 z)) × (to_z w32 (of_z w32 z) <ℤ pos 4096) × (n ≤ 4096)
+near_too corner z n from to from' to' le = rw (near_back corner from (omega (arith, ints, to)), near_back z from' (omega (arith, ints, to'))) (from, to, from', to', le)
+
+output_back : (wrapped : Bool) (n : ℕ) (corner z at : ℤ) → pos 0 ≤ℤ corner → corner ≤ℤ pos 4096 → pos 0 ≤ℤ z → z <ℤ pos 4096 → SFits w32 at
+    → at ≡ around_axis wrapped n (to_z w32 (of_z w32 corner) +ℤ (to_z w32 (of_z w32 z) -ℤ pos (one_if (has_before wrapped (to_z w32 (of_z w32 corner))))))
+    → to_z w32 (of_z w32 at) ≡ around_axis wrapped n (corner +ℤ (z -ℤ pos (one_if (has_before wrapped corner))))
+output_back wrapped n corner z at from to from' to' fits is =
+    to_z-of_z w32 at fits ∙ is
+    ∙ (λ k. around_axis wrapped n (near_back corner from (omega (arith, ints, to)) k +ℤ (near_back z from' (omega (arith, ints, to')) k -ℤ pos (one_if (has_before wrapped (near_back corner from (omega (arith, ints, to)) k))))))
+
 pub near_inside : (m : SourceMap) (p : At) → IsMap m → IsInside m.size p → ((pos 0 ≤ℤ p.x) × (p.x <ℤ pos 4096)) × ((pos 0 ≤ℤ p.y) × (p.y <ℤ pos 4096)) × ((pos 0 ≤ℤ p.f) × (p.f <ℤ pos 4096))
 near_inside m p is inside =
     let on = of_inside m.size p inside in
@@ -90,3 +107,39 @@ near_inside m p is inside =
     let y = on_axis_bounds m.size.h p.y on.y in
     let f = on_axis_bounds m.size.f p.f on.f in
     ((x.0, omega (arith, ints, x.1, is.small.axes.w.1)), (y.0, omega (arith, ints, y.1, is.small.axes.h.1)), (f.0, omega (arith, ints, f.1, is.small.axes.f.1)))
+
+-- the cell of the output that the small canvas's cell of an index stands for, coordinate by coordinate
+module _ (m : SourceMap) (wrap : Wrap) (rect : Box3) (small : SourceMap) (i : ℕ) (whole : IsMap m) (takes : Takes wrap m.size rect) (is : IsMap small) (lt : i < cell_count small.size) (size : Size) (p : At) (size_is : size ≡ m.size) (p_is : p ≡ place_of small.size i) where
+  near_p : ((pos 0 ≤ℤ p.x) × (p.x <ℤ pos 4096)) × ((pos 0 ≤ℤ p.y) × (p.y <ℤ pos 4096)) × ((pos 0 ≤ℤ p.f) × (p.f <ℤ pos 4096))
+  near_p = near_inside small p is (subst (IsInside small.size) (sym p_is) (inside_is small i is lt))
+
+  near_x : (pos 0 ≤ℤ rect.corner.x) × (rect.corner.x ≤ℤ pos 4096) × (rect.size.w ≤ 4096)
+  near_x = takes_near wrap.x m.size.w rect.corner.x rect.size.w takes.x whole.small.axes.w.1
+
+  near_y : (pos 0 ≤ℤ rect.corner.y) × (rect.corner.y ≤ℤ pos 4096) × (rect.size.h ≤ 4096)
+  near_y = takes_near wrap.y m.size.h rect.corner.y rect.size.h takes.y whole.small.axes.h.1
+
+  near_f : (pos 0 ≤ℤ rect.corner.f) × (rect.corner.f ≤ℤ pos 4096) × (rect.size.f ≤ 4096)
+  near_f = takes_near wrap.f m.size.f rect.corner.f rect.size.f takes.f whole.small.axes.f.1
+
+  pub fill_x : (pos 0 ≤ℤ to_z w32 (of_z w32 rect.corner.x)) × (to_z w32 (of_z w32 rect.corner.x) ≤ℤ pos 4096) × (pos 0 ≤ℤ to_z w32 (of_z w32 p.x)) × (to_z w32 (of_z w32 p.x) <ℤ pos 4096) × (size.w ≤ 4096)
+  fill_x = near_too rect.corner.x p.x size.w near_x.0 near_x.1 near_p.0.0 near_p.0.1 (subst (λ (s : Size). s.w ≤ 4096) (sym size_is) whole.small.axes.w.1)
+
+  pub fill_y : (pos 0 ≤ℤ to_z w32 (of_z w32 rect.corner.y)) × (to_z w32 (of_z w32 rect.corner.y) ≤ℤ pos 4096) × (pos 0 ≤ℤ to_z w32 (of_z w32 p.y)) × (to_z w32 (of_z w32 p.y) <ℤ pos 4096) × (size.h ≤ 4096)
+  fill_y = near_too rect.corner.y p.y size.h near_y.0 near_y.1 near_p.1.0 near_p.1.1 (subst (λ (s : Size). s.h ≤ 4096) (sym size_is) whole.small.axes.h.1)
+
+  pub fill_f : (pos 0 ≤ℤ to_z w32 (of_z w32 rect.corner.f)) × (to_z w32 (of_z w32 rect.corner.f) ≤ℤ pos 4096) × (pos 0 ≤ℤ to_z w32 (of_z w32 p.f)) × (to_z w32 (of_z w32 p.f) <ℤ pos 4096) × (size.f ≤ 4096)
+  fill_f = near_too rect.corner.f p.f size.f near_f.0 near_f.1 near_p.2.0 near_p.2.1 (subst (λ (s : Size). s.f ≤ 4096) (sym size_is) whole.small.axes.f.1)
+
+  abbrev moved_on : Bool → ℕ → ℤ → ℤ → ℤ
+  moved_on wrapped n corner z = around_axis wrapped n (to_z w32 (of_z w32 corner) +ℤ (to_z w32 (of_z w32 z) -ℤ pos (one_if (has_before wrapped (to_z w32 (of_z w32 corner))))))
+
+  pub fill_at_is : (x y f : ℤ) → SFits w32 x → SFits w32 y → SFits w32 f
+      → x ≡ moved_on wrap.x size.w rect.corner.x p.x → y ≡ moved_on wrap.y size.h rect.corner.y p.y → f ≡ moved_on wrap.f size.f rect.corner.f p.f
+      → record { x = to_z w32 (of_z w32 x); y = to_z w32 (of_z w32 y); f = to_z w32 (of_z w32 f) } ≡ output_cell wrap m.size rect (place_of small.size i)
+  fill_at_is x y f fx fy ff ex ey ef =
+      (λ k. record {
+        x = output_back wrap.x size.w rect.corner.x p.x x near_x.0 near_x.1 near_p.0.0 near_p.0.1 fx ex k;
+        y = output_back wrap.y size.h rect.corner.y p.y y near_y.0 near_y.1 near_p.1.0 near_p.1.1 fy ey k;
+        f = output_back wrap.f size.f rect.corner.f p.f f near_f.0 near_f.1 near_p.2.0 near_p.2.1 ff ef k;
+      }) ∙ (λ k. output_cell wrap (size_is k) rect (p_is k))

@@ -1,6 +1,7 @@
 -- A choice is put into the output cell by cell, around the edges.
-use Rattle.std.proofs.Common.{◌≡◌, ℕ, ◌+◌, ◌/◌, ◌%◌, ◌<◌, ◌≤◌, ◌⊎◌, inl, inr, ⊎_elim, refl, ap, sym, ◌∙◌, subst, arith, Bool, true, false, List}
-use Rattle.std.proofs.lemmas.Int.{ints}
+use Rattle.std.proofs.Common.{◌≡◌, ℕ, ◌+◌, ◌/◌, ◌%◌, ◌<◌, ◌≤◌, ◌⊎◌, inl, inr, ⊎_elim, refl, ap, sym, ◌∙◌, subst, arith, Bool, true, false, List, w32, to_z, of_z}
+use Rattle.std.proofs.lemmas.Int.{ints, to_z-of_z}
+use mir.Val.{SFits}
 use Rattle.std.proofs.lemmas.Bool.{cases_eq, cases_lt}
 use Rattle.std.specs.Prelude.{ℤ, pos, ◌+ℤ◌, ◌-ℤ◌, ◌≤ℤ◌, Option, Some, None, IsSome, slice_index_or, if◌then◌else◌}
 use Rattle.cells.specs.declared.place.At.{At}
@@ -11,6 +12,7 @@ use Rattle.cells.specs.Places.{IsInside, IsSmall, cell_count, index_in, on_axis,
 use Rattle.std.proofs.Math.Nat.{mul-le-mul}
 use Rattle.cells.proofs.BoxLaws.{step_of as step_counts}
 use Rattle.cells.proofs.BoxTests.{inside_of, of_inside, on_axis_some}
+use Rattle.cells.proofs.SizeLaws.{near_back}
 use Rattle.cells.proofs.Raster.{index_below, one_place, place_at}
 use Rattle.boxes.specs.Pairs.{one_if}
 use Rattle.map_canvas.specs.declared.canvas.Placement.{Placement}
@@ -21,6 +23,7 @@ use Rattle.torus.specs.Filling.{IsNamedAt, IsPutTo}
 use Rattle.torus.specs.Tiles.{AxisTakes, IsAfterAround, Takes, after_around, has_before, small_axis, step_around}
 use Rattle.torus.specs.Wraps.{around, around_axis}
 use Rattle.torus.proofs.Axes.{SameStep}
+use Rattle.torus.proofs.Fillings.{takes_near}
 use Rattle.torus.proofs.SmallAxes.{IsSmallAxis, coordinate, small_axis_of, step_of}
 
 -- one axis: a step from the corner, taken around, is that step again, and a coordinate is where its step leads
@@ -71,16 +74,63 @@ small_takes wrap size rect takes some small =
       cells = omega (arith, small.cells, mul-le-mul w (mul-le-mul h f));
     }
 
-pub step_near : (size : Size) (i : ℕ) → IsSmall size → i < cell_count size → ((pos 0 ≤ℤ (place_of size i).y) × ((place_of size i).y ≤ℤ pos 4096)) × ((pos 0 ≤ℤ (place_of size i).f) × ((place_of size i).f ≤ℤ pos 4096))
-step_near size i small lt =
-    let c = step_counts size i (record { w = small.axes.w.0; h = small.axes.h.0; f = small.axes.f.0 }) lt in
-    ((low (i / size.w % size.h), high (i / size.w % size.h) size.h c.y small.axes.h.1), (low (i / size.w / size.h), high (i / size.w / size.h) size.f c.f small.axes.f.1))
-  where
-    low : (n : ℕ) → pos 0 ≤ℤ pos n
-    low n = omega (arith, ints)
+-- coordinates that are near come back from 32 bits as they are
+abbrev IsNear : ℤ → ℤ → ℕ → Type 0
+IsNear corner z n = (pos 0 ≤ℤ to_z w32 (of_z w32 corner)) × (to_z w32 (of_z w32 corner) ≤ℤ pos 4096) × (pos 0 ≤ℤ to_z w32 (of_z w32 z)) × (to_z w32 (of_z w32 z) ≤ℤ pos 4096) × (n ≤ 4096)
 
-    high : (n m : ℕ) → n < m → m ≤ 4096 → pos n ≤ℤ pos 4096
-    high n m lt le = omega (arith, ints)
+near_too : (corner z : ℤ) (n : ℕ) → pos 0 ≤ℤ corner → corner ≤ℤ pos 4096 → pos 0 ≤ℤ z → z ≤ℤ pos 4096 → n ≤ 4096 → IsNear corner z n
+near_too corner z n from to from' to' le = rw (near_back corner from (omega (arith, ints, to)), near_back z from' (omega (arith, ints, to'))) (from, to, from', to', le)
+
+-- the step of an index of the box, and what comes back from 32 bits of it
+module _ (wrap : Wrap) (size : Size) (rect : Box3) (i : ℕ) (takes : Takes wrap size rect) (some : HasCells rect.size) (whole : IsSmall size) (lt : i < cell_count rect.size) (n : Size) (step : At) (size_is : n ≡ size) (step_is : step ≡ place_of rect.size i) where
+  small : IsSmall rect.size
+  small = small_takes wrap size rect takes some whole
+
+  near : (a b : ℕ) → a < b → b ≤ 4096 → (pos 0 ≤ℤ pos a) × (pos a ≤ℤ pos 4096)
+  near a b lt le = (omega (arith, ints), omega (arith, ints))
+
+  near_x : (pos 0 ≤ℤ step.x) × (step.x ≤ℤ pos 4096)
+  near_x = rw step_is (near (i % rect.size.w) rect.size.w (step_counts rect.size i some lt).x small.axes.w.1)
+
+  near_y : (pos 0 ≤ℤ step.y) × (step.y ≤ℤ pos 4096)
+  near_y = rw step_is (near (i / rect.size.w % rect.size.h) rect.size.h (step_counts rect.size i some lt).y small.axes.h.1)
+
+  near_f : (pos 0 ≤ℤ step.f) × (step.f ≤ℤ pos 4096)
+  near_f = rw step_is (near (i / rect.size.w / rect.size.h) rect.size.f (step_counts rect.size i some lt).f small.axes.f.1)
+
+  corner_x : (pos 0 ≤ℤ rect.corner.x) × (rect.corner.x ≤ℤ pos 4096) × (rect.size.w ≤ 4096)
+  corner_x = takes_near wrap.x size.w rect.corner.x rect.size.w takes.x whole.axes.w.1
+
+  corner_y : (pos 0 ≤ℤ rect.corner.y) × (rect.corner.y ≤ℤ pos 4096) × (rect.size.h ≤ 4096)
+  corner_y = takes_near wrap.y size.h rect.corner.y rect.size.h takes.y whole.axes.h.1
+
+  corner_f : (pos 0 ≤ℤ rect.corner.f) × (rect.corner.f ≤ℤ pos 4096) × (rect.size.f ≤ 4096)
+  corner_f = takes_near wrap.f size.f rect.corner.f rect.size.f takes.f whole.axes.f.1
+
+  pub put_x : IsNear rect.corner.x step.x n.w
+  put_x = near_too rect.corner.x step.x n.w corner_x.0 corner_x.1 near_x.0 near_x.1 (subst (λ (s : Size). s.w ≤ 4096) (sym size_is) whole.axes.w.1)
+
+  pub put_y : IsNear rect.corner.y step.y n.h
+  put_y = near_too rect.corner.y step.y n.h corner_y.0 corner_y.1 near_y.0 near_y.1 (subst (λ (s : Size). s.h ≤ 4096) (sym size_is) whole.axes.h.1)
+
+  pub put_f : IsNear rect.corner.f step.f n.f
+  put_f = near_too rect.corner.f step.f n.f corner_f.0 corner_f.1 near_f.0 near_f.1 (subst (λ (s : Size). s.f ≤ 4096) (sym size_is) whole.axes.f.1)
+
+  abbrev moved_on : Bool → ℕ → ℤ → ℤ → ℤ
+  moved_on wrapped n corner z = around_axis wrapped n (to_z w32 (of_z w32 corner) +ℤ to_z w32 (of_z w32 z))
+
+  put_back : (wrapped : Bool) (n : ℕ) (corner z at : ℤ) → pos 0 ≤ℤ corner → corner ≤ℤ pos 4096 → pos 0 ≤ℤ z → z ≤ℤ pos 4096 → SFits w32 at → at ≡ moved_on wrapped n corner z → to_z w32 (of_z w32 at) ≡ around_axis wrapped n (corner +ℤ z)
+  put_back wrapped n corner z at from to from' to' fits is =
+      to_z-of_z w32 at fits ∙ is ∙ (λ k. around_axis wrapped n (near_back corner from (omega (arith, ints, to)) k +ℤ near_back z from' (omega (arith, ints, to')) k))
+
+  pub put_at_is : (x y f : ℤ) → SFits w32 x → SFits w32 y → SFits w32 f → x ≡ moved_on wrap.x n.w rect.corner.x step.x → y ≡ moved_on wrap.y n.h rect.corner.y step.y → f ≡ moved_on wrap.f n.f rect.corner.f step.f
+      → record { x = to_z w32 (of_z w32 x); y = to_z w32 (of_z w32 y); f = to_z w32 (of_z w32 f) } ≡ around wrap size (plus rect.corner (place_of rect.size i))
+  put_at_is x y f fx fy ff ex ey ef =
+      (λ k. record {
+        x = put_back wrap.x n.w rect.corner.x step.x x corner_x.0 corner_x.1 near_x.0 near_x.1 fx ex k;
+        y = put_back wrap.y n.h rect.corner.y step.y y corner_y.0 corner_y.1 near_y.0 near_y.1 fy ey k;
+        f = put_back wrap.f n.f rect.corner.f step.f f corner_f.0 corner_f.1 near_f.0 near_f.1 ff ef k;
+      }) ∙ (λ k. around wrap (size_is k) (plus rect.corner (step_is k)))
 
 module _ (m : SourceMap) (wrap : Wrap) (placement : Placement) (takes : Takes wrap m.size placement.rect) (some : HasCells placement.rect.size) where
   bx : IsBack wrap.x m.size.w placement.rect.corner.x placement.rect.size.w

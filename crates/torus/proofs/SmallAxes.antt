@@ -68,9 +68,8 @@ module _ (n c len : ℕ) (lt : c < n) (less : len < n) where
     room = omega arith;
     on = λ i le. let t = at i le in on_axis_some n (coordinate true n (pos c) 1 (pos i)) t.from t.to;
     steps = steps_wrapped;
-    follows = λ i le. let t = at i (omega arith) in let w = one_on (coordinate true n (pos c) 1 (pos i)) t.from t.to in
-        same_turn n (pos c +ℤ ((pos i +ℤ pos 1) -ℤ pos 1)) (coordinate true n (pos c) 1 (pos i) +ℤ pos 1) (omega (arith, ints)) (omega (arith, ints)) w.0 w.1 (next_apart (pos c +ℤ (pos i -ℤ pos 1)) (coordinate true n (pos c) 1 (pos i)) (pos c +ℤ ((pos i +ℤ pos 1) -ℤ pos 1)) (omega (arith, ints)) t.by);
-    stays = λ q on. let b = on_axis_bounds n q on in turn_is n (q +ℤ pos 0) q (omega (arith, ints, b.0)) (omega (arith, ints, b.1)) b.0 b.1 (inl (omega (arith, ints)));
+    follows = λ i le. let t = at i (below_too i (1 + (len + 1)) le) in follows_at i (coordinate true n (pos c) 1 (pos i)) le t.from t.to t.by;
+    stays = λ q on. let b = on_axis_bounds n q on in stays_at q b.0 b.1;
     place = λ q j on e less'. place_of q j on e less';
     next = λ q r j on on' e s less'. let b = on_axis_bounds n q on in let b' = on_axis_bounds n r on' in
         next_of q r j b.0 b.1 b'.0 b'.1 (step_apart r b'.0 b'.1) e s less' (cases_lt (j + 1) len);
@@ -89,6 +88,21 @@ module _ (n c len : ℕ) (lt : c < n) (less : len < n) where
       next_apart z q w is (inl e) = inl (omega (arith, ints))
       next_apart z q w is (inr (inl e)) = inr (inr (omega (arith, ints)))
       next_apart z q w is (inr (inr e)) = inr (inl (omega (arith, ints)))
+
+      below_too : (i s : ℕ) → i + 1 < s → i < s
+      below_too i s le = omega arith
+
+      next_on : (i : ℕ) → i + 1 < 1 + (len + 1) → ((pos 0 -ℤ pos n) ≤ℤ (pos c +ℤ ((pos i +ℤ pos 1) -ℤ pos 1))) × ((pos c +ℤ ((pos i +ℤ pos 1) -ℤ pos 1)) <ℤ pos (n + n)) × (pos c +ℤ ((pos i +ℤ pos 1) -ℤ pos 1) ≡ (pos c +ℤ (pos i -ℤ pos 1)) +ℤ pos 1)
+      next_on i le = (omega (arith, ints), omega (arith, ints), omega (arith, ints))
+
+      follows_at : (i : ℕ) (q : ℤ) → i + 1 < 1 + (len + 1) → pos 0 ≤ℤ q → q <ℤ pos n → IsApart n q (pos c +ℤ (pos i -ℤ pos 1)) → on_turn n (pos c +ℤ ((pos i +ℤ pos 1) -ℤ pos 1)) ≡ on_turn n (q +ℤ pos 1)
+      follows_at i q le from to by =
+          let w = one_on q from to in
+          let z = next_on i le in
+          same_turn n (pos c +ℤ ((pos i +ℤ pos 1) -ℤ pos 1)) (q +ℤ pos 1) z.0 z.1 w.0 w.1 (next_apart (pos c +ℤ (pos i -ℤ pos 1)) q (pos c +ℤ ((pos i +ℤ pos 1) -ℤ pos 1)) z.2 by)
+
+      stays_at : (q : ℤ) → pos 0 ≤ℤ q → q <ℤ pos n → on_turn n (q +ℤ pos 0) ≡ q
+      stays_at q from to = turn_is n (q +ℤ pos 0) q (omega (arith, ints)) (omega (arith, ints)) from to (inl (omega (arith, ints)))
 
       -- a coordinate by its step
       by_step : (q s : ℤ) → IsApart n s (q -ℤ pos c) → IsApart n q (pos c +ℤ s)

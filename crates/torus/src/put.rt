@@ -1,5 +1,5 @@
 // A choice over a box that may pass the edge, put into the output.
-ghost use Rattle.std.specs.Prelude.{◌≡◌, ◌≤◌, ◌<◌, ◌*◌, ◌≤ℤ◌, ◌+ℤ◌, pos, true, false, length};
+ghost use Rattle.std.specs.Prelude.{◌≡◌, ◌≤◌, ◌<◌, ◌≤ℤ◌, ◌+ℤ◌, pos, true, false, length};
 ghost use Rattle.cells.specs.declared.place.Size.{Size};
 ghost use Rattle.cells.specs.Places.{cell_count, place_of, plus};
 ghost use Rattle.map_canvas.specs.Canvases.{IsCanvas, StandsOver};
@@ -10,47 +10,19 @@ ghost use Rattle.torus.specs.Wraps.{around, around_axis};
 
 use crate::around::around_axis;
 use crate::small::name_cell;
-use cells::{At, Size, Volume};
+use cells::{At, Volume};
 use job_words::Wrap;
 use limits::GREATEST_AXIS;
 use map_canvas::laws::new_sources;
 use map_canvas::{Canvas, Placement};
 
-// A coordinate so far from a corner.
-fn sum(corner: i32, step: i32) -> i32
-    requires { (pos 0 ≤ℤ corner) × (corner ≤ℤ pos GREATEST_AXIS)
-        × (pos 0 ≤ℤ step) × (step ≤ℤ pos GREATEST_AXIS) }
-    ensures is { result ≡ corner +ℤ step }
-    ensures from { pos 0 ≤ℤ result }
-    ensures to { result ≤ℤ pos (2 * GREATEST_AXIS) }
-{
-    corner + step
-}
-
-// The same on an axis that may be wrapped.
+// The coordinate so far from a corner, on an axis that may be wrapped.
 fn coordinate_at(wrapped: bool, n: u32, corner: i32, step: i32) -> i32
     requires { (pos 0 ≤ℤ corner) × (corner ≤ℤ pos GREATEST_AXIS)
         × (pos 0 ≤ℤ step) × (step ≤ℤ pos GREATEST_AXIS) × (n ≤ GREATEST_AXIS) }
     ensures { result ≡ around_axis wrapped n (corner +ℤ step) }
 {
-    around_axis(wrapped, n, sum(corner, step))
-}
-
-// The cell of the output at a step from a box's corner.
-fn place_around(size: Size, wrap: &Wrap, corner: At, step: At) -> At
-    requires x { (pos 0 ≤ℤ corner.x) × (corner.x ≤ℤ pos GREATEST_AXIS)
-        × (pos 0 ≤ℤ step.x) × (step.x ≤ℤ pos GREATEST_AXIS) × (size.w ≤ GREATEST_AXIS) }
-    requires y { (pos 0 ≤ℤ corner.y) × (corner.y ≤ℤ pos GREATEST_AXIS)
-        × (pos 0 ≤ℤ step.y) × (step.y ≤ℤ pos GREATEST_AXIS) × (size.h ≤ GREATEST_AXIS) }
-    requires f { (pos 0 ≤ℤ corner.f) × (corner.f ≤ℤ pos GREATEST_AXIS)
-        × (pos 0 ≤ℤ step.f) × (step.f ≤ℤ pos GREATEST_AXIS) × (size.f ≤ GREATEST_AXIS) }
-    ensures { result ≡ around wrap.now size (plus corner step) }
-{
-    At {
-        x: coordinate_at(wrap.x, size.w, corner.x, step.x),
-        y: coordinate_at(wrap.y, size.h, corner.y, step.y),
-        f: coordinate_at(wrap.f, size.f, corner.f, step.f),
-    }
+    around_axis(wrapped, n, corner + step)
 }
 
 // Puts in what a choice says of the box's cell at an index.
@@ -82,7 +54,12 @@ fn put_at(
     new_sources();
     if new {
         let step = placement.rect.size.place_at(i);
-        let p = place_around(size, wrap, placement.rect.corner, step);
+        let corner = placement.rect.corner;
+        let p = At {
+            x: coordinate_at(wrap.x, size.w, corner.x, step.x),
+            y: coordinate_at(wrap.y, size.h, corner.y, step.y),
+            f: coordinate_at(wrap.f, size.f, corner.f, step.f),
+        };
         let from = placement.from.plus(step);
         name_cell(canvas, sample, p, from);
     }

@@ -2,7 +2,7 @@
 ghost use Rattle.std.specs.Prelude.{◌≡◌, ◌≤◌, ◌≤ℤ◌, ◌<ℤ◌, pos};
 ghost use Rattle.cells.specs.Places.{HasAxes, IsInside};
 ghost use Rattle.boxes.specs.Spans.{at_least_0};
-ghost use Rattle.torus.specs.Boxes.{tile_box, tile_corner, tile_inner, tile_len};
+ghost use Rattle.torus.specs.Boxes.{tile_box, tile_corner, tile_len};
 
 use crate::around::around_axis;
 use boxes::{count_of, patch_corner, patch_len};
@@ -38,21 +38,6 @@ fn tile_corner(wrapped: bool, n: u32, len: u32, overlap: u32, q: i32) -> i32
     }
 }
 
-// The size of a patch.
-fn tile_inner(plan: &TilePlan, output: Size, part: Size) -> Size
-    requires output { HasAxes output }
-    ensures is { result ≡ tile_inner plan.now output part }
-    ensures x { result.w ≤ output.w }
-    ensures y { result.h ≤ output.h }
-    ensures f { result.f ≤ output.f }
-{
-    Size {
-        w: tile_len(plan.wrap.x, output.w, part.w, plan.side),
-        h: tile_len(plan.wrap.y, output.h, part.h, plan.side),
-        f: tile_len(plan.wrap.f, output.f, part.f, plan.side),
-    }
-}
-
 /// The box that the patch for a cell q goes to, of an output and a part of these sizes. On a wrapped axis it may
 /// begin in the output and pass its edge.
 pub fn tile_box(plan: &TilePlan, output: Size, part: Size, q: At) -> Box3
@@ -60,7 +45,11 @@ pub fn tile_box(plan: &TilePlan, output: Size, part: Size, q: At) -> Box3
     requires inside { IsInside output q }
     ensures { result ≡ tile_box plan.now output part q }
 {
-    let size = tile_inner(plan, output, part);
+    let size = Size {
+        w: tile_len(plan.wrap.x, output.w, part.w, plan.side),
+        h: tile_len(plan.wrap.y, output.h, part.h, plan.side),
+        f: tile_len(plan.wrap.f, output.f, part.f, plan.side),
+    };
     let corner = At {
         x: tile_corner(plan.wrap.x, output.w, size.w, plan.overlap, q.x),
         y: tile_corner(plan.wrap.y, output.h, size.h, plan.overlap, q.y),

@@ -1,10 +1,10 @@
 // The small canvas of a box.
-ghost use Rattle.std.specs.Prelude.{◌≡◌, ◌≤◌, ◌<◌, ◌≤ℤ◌, ◌<ℤ◌, ◌+ℤ◌, ◌-ℤ◌, ◌+◌, ◌*◌, pos, negsuc, IfOk, Some, None};
+ghost use Rattle.std.specs.Prelude.{◌≡◌, ◌≤◌, ◌<◌, ◌≤ℤ◌, ◌<ℤ◌, ◌+ℤ◌, ◌-ℤ◌, ◌+◌, pos, IfOk, Some, None};
 ghost use Rattle.cells.specs.Cells.{HasCell};
-ghost use Rattle.cells.specs.Places.{IsInside, IsSmall, cell_count, place_of};
+ghost use Rattle.cells.specs.Places.{IsInside, IsSmall, cell_count};
 ghost use Rattle.boxes.specs.Pairs.{one_if};
 ghost use Rattle.map_canvas.specs.Canvases.{IsCanvas, StandsOver};
-ghost use Rattle.torus.specs.Tiles.{IsSmallMap, Takes, has_after, has_before, output_cell, small_axis, small_box, small_size};
+ghost use Rattle.torus.specs.Tiles.{IsSmallMap, Takes, has_before, small_axis, small_box, small_size};
 ghost use Rattle.torus.specs.Wraps.{around_axis};
 ghost use Rattle.torus.specs.Filling.{IsFilledTo, IsNamedAt};
 
@@ -23,35 +23,17 @@ fn before(wrapped: bool, corner: i32) -> u32
     if wrapped || corner > 0 { 1 } else { 0 }
 }
 
-// And after it.
-fn after(wrapped: bool, n: u32, corner: i32, len: u32) -> u32
-    requires { (pos 0 ≤ℤ corner) × (corner ≤ℤ pos GREATEST_AXIS) × (len ≤ GREATEST_AXIS) }
-    ensures { result ≡ one_if (has_after wrapped n corner len) }
-{
-    if wrapped || corner as u32 + len < n {
-        1
-    } else {
-        0
-    }
-}
-
 // How many it has on an axis.
 fn small_axis(wrapped: bool, n: u32, corner: i32, len: u32) -> u32
     requires { (pos 0 ≤ℤ corner) × (corner ≤ℤ pos GREATEST_AXIS) × (len ≤ GREATEST_AXIS) }
     ensures { result ≡ small_axis wrapped n corner len }
 {
-    before(wrapped, corner) + (len + after(wrapped, n, corner, len))
-}
-
-// A coordinate as far from a corner as another is from the box's start in the small canvas.
-fn moved(corner: i32, z: i32, before: u32) -> i32
-    requires { (pos 0 ≤ℤ corner) × (corner ≤ℤ pos GREATEST_AXIS)
-        × (pos 0 ≤ℤ z) × (z <ℤ pos GREATEST_AXIS) × (before ≤ 1) }
-    ensures is { result ≡ corner +ℤ (z -ℤ pos before) }
-    ensures from { negsuc 0 ≤ℤ result }
-    ensures to { result ≤ℤ pos (2 * GREATEST_AXIS) }
-{
-    corner + (z - before as i32)
+    let after = if wrapped || corner as u32 + len < n {
+        1
+    } else {
+        0
+    };
+    before(wrapped, corner) + (len + after)
 }
 
 // The size of the small canvas.
@@ -93,25 +75,8 @@ fn coordinate(wrapped: bool, n: u32, corner: i32, z: i32) -> i32
     ensures { result ≡ around_axis wrapped n
         (corner +ℤ (z -ℤ pos (one_if (has_before wrapped corner)))) }
 {
-    let z = moved(corner, z, before(wrapped, corner));
-    around_axis(wrapped, n, z)
-}
-
-// The cell of the output that a cell of the small canvas stands for.
-fn cell_of(size: Size, wrap: &Wrap, rect: &Box3, p: At) -> At
-    requires x { (pos 0 ≤ℤ rect.now.corner.x) × (rect.now.corner.x ≤ℤ pos GREATEST_AXIS)
-        × (pos 0 ≤ℤ p.x) × (p.x <ℤ pos GREATEST_AXIS) × (size.w ≤ GREATEST_AXIS) }
-    requires y { (pos 0 ≤ℤ rect.now.corner.y) × (rect.now.corner.y ≤ℤ pos GREATEST_AXIS)
-        × (pos 0 ≤ℤ p.y) × (p.y <ℤ pos GREATEST_AXIS) × (size.h ≤ GREATEST_AXIS) }
-    requires f { (pos 0 ≤ℤ rect.now.corner.f) × (rect.now.corner.f ≤ℤ pos GREATEST_AXIS)
-        × (pos 0 ≤ℤ p.f) × (p.f <ℤ pos GREATEST_AXIS) × (size.f ≤ GREATEST_AXIS) }
-    ensures { result ≡ output_cell wrap.now size rect.now p }
-{
-    At {
-        x: coordinate(wrap.x, size.w, rect.corner.x, p.x),
-        y: coordinate(wrap.y, size.h, rect.corner.y, p.y),
-        f: coordinate(wrap.f, size.f, rect.corner.f, p.f),
-    }
+    let step = z - before(wrapped, corner) as i32;
+    around_axis(wrapped, n, corner + step)
 }
 
 // Names a source for one cell of a canvas that has none.
@@ -133,17 +98,6 @@ pub(crate) fn name_cell(small: &mut Canvas, sample: &Volume, p: At, from: At)
     small.put_choice(sample, &placement, &[true]);
 }
 
-// The cell of the output that the small canvas's cell of an index stands for.
-fn cell_at(small: &Canvas, canvas: &Canvas, wrap: &Wrap, rect: &Box3, i: usize) -> At
-    requires takes { Takes wrap.now canvas.now.map.size rect.now }
-    requires below { i < cell_count small.now.map.size }
-    ensures { result ≡ output_cell wrap.now canvas.now.map.size rect.now
-        (place_of small.now.map.size i) }
-{
-    let p = small.map().size().place_at(i);
-    cell_of(canvas.map().size(), wrap, rect, p)
-}
-
 // Fills the cell of an index as the output's cell is.
 fn fill_at(small: &mut Canvas, canvas: &Canvas, sample: &Volume, wrap: &Wrap, rect: &Box3, i: usize)
     requires over { StandsOver canvas.now sample.now }
@@ -155,8 +109,13 @@ fn fill_at(small: &mut Canvas, canvas: &Canvas, sample: &Volume, wrap: &Wrap, re
     ensures stands { StandsOver small.new sample.now }
     ensures canvas { IsCanvas small.new }
 {
-    let at = cell_at(small, canvas, wrap, rect, i);
     let p = small.map().size().place_at(i);
+    let size = canvas.map().size();
+    let at = At {
+        x: coordinate(wrap.x, size.w, rect.corner.x, p.x),
+        y: coordinate(wrap.y, size.h, rect.corner.y, p.y),
+        f: coordinate(wrap.f, size.f, rect.corner.f, p.f),
+    };
     match canvas.map().at(at) {
         Some(from) => name_cell(small, sample, p, from),
         None => {}

@@ -1,6 +1,6 @@
 // The forms of samples.
 ghost use Rattle.std.specs.Prelude.{◌≡◌};
-ghost use Rattle.sample_files.specs.Samples.{can_turn, goes_with, has_pixel_cells};
+ghost use Rattle.sample_files.specs.Samples.{can_turn, goes_with};
 
 use y4m_clip::{ClipForm, SpaceKind};
 
@@ -13,16 +13,6 @@ pub enum Form {
     Clip { form: ClipForm },
 }
 
-// Whether each cell of a clip of this kind is one pixel.
-fn has_pixel_cells(space: SpaceKind) -> bool
-    ensures { result ≡ has_pixel_cells space }
-{
-    match space {
-        SpaceKind::Mono | SpaceKind::C444 => true,
-        SpaceKind::C422 | SpaceKind::C411 | SpaceKind::C420 => false,
-    }
-}
-
 impl Form {
     /// Whether the cells of a sample in this form can be turned: each is one pixel, which a turn moves
     /// as a whole.
@@ -31,7 +21,10 @@ impl Form {
     {
         match self {
             Form::Picture { .. } => true,
-            Form::Clip { form } => has_pixel_cells(form.space),
+            Form::Clip { form } => match form.space {
+                SpaceKind::Mono | SpaceKind::C444 => true,
+                SpaceKind::C422 | SpaceKind::C411 | SpaceKind::C420 => false,
+            },
         }
     }
 

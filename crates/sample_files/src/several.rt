@@ -66,20 +66,12 @@ fn cells_in(volume: &Volume) -> usize
     volume.bytes().len() / volume.samples() as usize
 }
 
-// How many cells so many are with their turns.
-fn with_turns(turns: bool, count: usize) -> usize
-    requires { count ≤ MOST_CELLS }
-    ensures { result ≡ with_turns turns count }
-{
-    if turns { TURNS as usize * count } else { count }
-}
-
 // Asks whether so many cells, with their turns, are within the bound of samples.
 fn cells_within(turns: bool, count: usize) -> Result<(), Fault>
     requires { count ≤ MOST_CELLS }
     ensures { AsksBound CellsLimit (with_turns turns count) MOST_SAMPLE_CELLS result }
 {
-    let cells = with_turns(turns, count) as u64;
+    let cells = if turns { TURNS as usize * count } else { count } as u64;
     if cells > MOST_SAMPLE_CELLS {
         return Err(Fault::Limit {
             what: What::Cells,

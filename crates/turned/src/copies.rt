@@ -23,26 +23,6 @@ pub struct PartTurn {
     pub size: Size,
 }
 
-// A turn of a part.
-fn part_turn(samples: &Volume, sizes: &Sizes, number: u32, turn: u32) -> PartTurn
-    requires sizes { AreSizesOf samples.now sizes.now }
-    requires from { 1 ≤ number }
-    requires to { number ≤ length sizes.now }
-    requires turn { turn < TURNS }
-    ensures number { result.number ≡ number }
-    ensures turn { result.turn ≡ turn }
-    ensures size { result.size ≡ turn_size turn (sample_size sizes.now number) }
-    ensures is { IsPartTurn samples.now sizes.now result }
-{
-    // The samples are taken for their contract only: it shows the prover that these are a volume.
-    let _k = samples.samples();
-    PartTurn {
-        number,
-        turn,
-        size: turned_size(turn, sizes.at(number)),
-    }
-}
-
 // The place of three counts.
 fn spot_of(x: u32, y: u32, f: u32) -> At
     requires x { x ≤ GREATEST_AXIS }
@@ -77,17 +57,6 @@ fn cell_at(samples: &Volume, at: At) -> &[u8]
     samples.cell(at).unwrap()
 }
 
-// The cell that a turn moves to a place of the turned part.
-fn cell_of<'a>(samples: &'a Volume, sizes: &Sizes, it: PartTurn, at: At) -> &'a [u8]
-    requires part { IsPartTurn samples.now sizes.now it }
-    requires inside { IsInside it.size at }
-    ensures { result.now ≡ turned_cell it.turn (numbered_part samples.now it.number) at }
-{
-    // The samples are taken for their contract only: it shows the prover that these are a volume.
-    let _k = samples.samples();
-    cell_at(samples, source_of(sizes, it.number, it.turn, at))
-}
-
 // Puts the cells of a row of a turned part after others, one by one.
 fn push_cells(
     bytes: &mut Vec<u8>,
@@ -103,28 +72,13 @@ fn push_cells(
     ensures { OnOk result (bytes.new.items ≡ bytes.old.items
         ++ concat (turned_row it.turn (numbered_part samples.now it.number) y f it.size.w)) }
 {
-    for x in 0..it.size.w {
-        let cell = cell_of(samples, sizes, it, spot_of(x, y, f));
-        bytes.extend_from_slice(cell)?;
-    }
-    Ok(())
-}
-
-// A row of a part that a turn keeps, as it is in the turned part.
-fn row_of<'a>(samples: &'a Volume, sizes: &Sizes, it: PartTurn, y: u32, f: u32) -> &'a [u8]
-    requires part { IsPartTurn samples.now sizes.now it }
-    requires keeps { (it.turn ≡ 0) ⊎ (it.turn ≡ 6) }
-    requires row { y < it.size.h }
-    requires frame { f < it.size.f }
-    ensures { result.now
-        ≡ concat (turned_row it.turn (numbered_part samples.now it.number) y f it.size.w) }
-{
     // The samples are taken for their contract only: it shows the prover that these are a volume.
     let _k = samples.samples();
-    samples.row(
-        source_of(sizes, it.number, it.turn, spot_of(0, y, f)),
-        it.size.w,
-    )
+    for x in 0..it.size.w {
+        let at = source_of(sizes, it.number, it.turn, spot_of(x, y, f));
+        bytes.extend_from_slice(cell_at(samples, at))?;
+    }
+    Ok(())
 }
 
 // Puts a row of a turned part after others: whole where the turn keeps rows, and else cell by cell.
@@ -142,8 +96,11 @@ fn push_row(
     ensures { OnOk result (bytes.new.items ≡ bytes.old.items
         ++ concat (turned_row it.turn (numbered_part samples.now it.number) y f it.size.w)) }
 {
+    // The samples are taken for their contract only: it shows the prover that these are a volume.
+    let _k = samples.samples();
     if keeps_rows(it.turn) {
-        bytes.extend_from_slice(row_of(samples, sizes, it, y, f))
+        let at = source_of(sizes, it.number, it.turn, spot_of(0, y, f));
+        bytes.extend_from_slice(samples.row(at, it.size.w))
     } else {
         push_cells(bytes, samples, sizes, it, y, f)
     }
@@ -193,9 +150,14 @@ fn turned_part(
     ensures samples { IfOk result (λ v. v.k ≡ samples.now.k) }
     ensures size { IfOk result (λ v. v.size ≡ turn_size turn (sample_size sizes.now number)) }
 {
-    let it = part_turn(samples, sizes, number, turn);
+    let k = samples.samples();
+    let it = PartTurn {
+        number,
+        turn,
+        size: turned_size(turn, sizes.at(number)),
+    };
     let bytes = turned_bytes(alloc, samples, sizes, it)?;
-    Ok(Volume::from_bytes(it.size, samples.samples(), bytes))
+    Ok(Volume::from_bytes(it.size, k, bytes))
 }
 
 // Puts turns of a part after the parts of a volume, from one turn on.

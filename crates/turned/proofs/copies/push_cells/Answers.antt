@@ -1,15 +1,24 @@
-use Rattle.std.proofs.Common.{arith, ◌≡◌, ◌++◌, ◌∙◌, ap, sym, subst}
+use Rattle.std.proofs.Common.{arith, ◌≡◌, ◌++◌, ◌∙◌, [], ap, refl, sym, subst}
+use Rattle.std.specs.Prelude.{IsSome, unwrap_or}
 use Rattle.std.proofs.lemmas.List.{append-nil, append_assoc}
 use Rattle.std.specs.List.{concat}
+use Rattle.cells.specs.Cells.{HasCell, cell_at}
 use Rattle.cells.specs.Places.{IsInside, spot}
 use Rattle.turned.specs.Copies.{numbered_part, turned_row}
 use Rattle.turned.specs.TurnedParts.{turned_cell}
-use Rattle.turned.proofs.Copying.{row_more, spot_within}
+use Rattle.turned.proofs.Copying.{cell_it, row_more, source_inside, spot_within}
 use Rattle.turned.proofs.copies.push_cells.Goals as goal
 
-pub cell_of-cell-requires-clause-inside : goal.cell_of-cell-requires-clause-inside
-cell_of-cell-requires-clause-inside c =
-    subst (IsInside c.args.it.size) (sym c.spot_of.ensures) (spot_within c.args.it.size c.loop-x.x c.args.y c.args.f c.loop-x-test.true c.requires.row c.requires.frame)
+pub source_of-at-requires-clause-inside : goal.source_of-at-requires-clause-inside
+source_of-at-requires-clause-inside c =
+    source_inside c.args.samples.now c.args.sizes.now c.args.it c.requires.part c.samples-k.ensures.volume c.spot_of.result
+    (subst (IsInside c.args.it.size) (sym c.spot_of.ensures) (spot_within c.args.it.size c.loop-x.x c.args.y c.args.f c.loop-x-test.true c.requires.row c.requires.frame))
+
+pub cell_at-requires : goal.cell_at-requires
+cell_at-requires c =
+    let inside = subst (IsInside c.args.it.size) (sym c.spot_of.ensures) (spot_within c.args.it.size c.loop-x.x c.args.y c.args.f c.loop-x-test.true c.requires.row c.requires.frame) in
+    let there = cell_it c.args.samples.now c.args.sizes.now c.args.it c.requires.part c.samples-k.ensures.volume c.spot_of.result inside in
+    subst (HasCell c.args.samples.now) (sym c.source_of-at.ensures) (subst IsSome (sym there) refl)
 
 pub loop-x-init : goal.loop-x-init
 loop-x-init c = sym (append-nil c.args.bytes.now.items)
@@ -19,7 +28,9 @@ loop-x-preserved c =
     let part = numbered_part c.args.samples.now c.args.it.number in
     let turn = c.args.it.turn in
     let x = c.loop-x.x in
-    let cell : c.cell_of-cell.result.now ≡ turned_cell turn part (spot x c.args.y c.args.f) = c.cell_of-cell.ensures ∙ ap (turned_cell turn part) c.spot_of.ensures in
+    let inside = subst (IsInside c.args.it.size) (sym c.spot_of.ensures) (spot_within c.args.it.size x c.args.y c.args.f c.loop-x-test.true c.requires.row c.requires.frame) in
+    let cell : c.cell_at.result.now ≡ turned_cell turn part (spot x c.args.y c.args.f) = c.cell_at.ensures ∙ ap (λ p. unwrap_or (cell_at c.args.samples.now p) []) c.source_of-at.ensures
+    ∙ ap (λ o. unwrap_or o []) (cell_it c.args.samples.now c.args.sizes.now c.args.it c.requires.part c.samples-k.ensures.volume c.spot_of.result inside) ∙ ap (turned_cell turn part) c.spot_of.ensures in
     (c.in_ok-extend_from_slice.ensures {u = tt}).items ∙ (λ k. c.loop-x.invariant k ++ cell k)
     ∙ append_assoc c.args.bytes.now.items (concat (turned_row turn part c.args.y c.args.f x)) (turned_cell turn part (spot x c.args.y c.args.f))
     ∙ ap (λ xs. c.args.bytes.now.items ++ xs) (sym (row_more turn part c.args.y c.args.f x))

@@ -3,7 +3,7 @@ ghost use Rattle.std.specs.Prelude.{◌≡◌, ◌≤◌, ◌<◌, ◌+◌, ◌^
 ghost use Rattle.cells.specs.Cells.{sizes_of};
 ghost use Rattle.cells.specs.Places.{IsNearAxis, IsSmall, cell_count, place_of};
 ghost use Rattle.cells.specs.SizeLists.{frames_to_part};
-ghost use Rattle.patch_picks.specs.Lists.{IsWithin, first_half, from_part, laid, listed, placed, room};
+ghost use Rattle.patch_picks.specs.Lists.{IsWithin, from_part, laid, listed, placed, room};
 ghost use Rattle.patch_picks.specs.Counts.{AreVolumeParts, FitsCount, IsBelowSize, IsOverParts, all_entries, entries_in, steps_in};
 
 use boxes::{Span, count_of, laid_on};
@@ -48,19 +48,6 @@ fn place_in(size: Size, i: u32) -> At
         x: (i % size.w) as i32,
         y: (i / size.w % size.h) as i32,
         f: (i / size.w / size.h) as i32,
-    }
-}
-
-// The first half of a part on each axis; of an odd number, with the middle.
-fn first_half(part: Size) -> Size
-    requires { IsSmall part }
-    ensures half { result ≡ first_half part }
-    ensures fits { FitsCount result }
-{
-    Size {
-        w: (part.w + 1) / 2,
-        h: (part.h + 1) / 2,
-        f: (part.f + 1) / 2,
     }
 }
 
@@ -175,7 +162,12 @@ impl Candidates {
     {
         match self {
             Candidates::One(_) => Size { w: 1, h: 1, f: 1 },
-            Candidates::Laid { .. } => first_half(part),
+            // The first half on each axis; of an odd number, with the middle.
+            Candidates::Laid { .. } => Size {
+                w: (part.w + 1) / 2,
+                h: (part.h + 1) / 2,
+                f: (part.f + 1) / 2,
+            },
             Candidates::Fits { rect } => room(part, rect.size),
         }
     }

@@ -1,6 +1,6 @@
 // Draws: words of a stream, by their number.
 ghost use Rattle.std.specs.Prelude.{◌≡◌, ◌<◌, ◌+◌, ◌%◌, ◌^◌};
-ghost use Rattle.patch_picks.specs.Draws.{DrawState, draw, seed_bytes};
+ghost use Rattle.patch_picks.specs.Draws.{DrawState, draw};
 
 use rand_chacha::ChaCha8Rng;
 use rand_core::SeedableRng;
@@ -24,23 +24,18 @@ impl Model for Draws {
     ghost invariant = { λ a. IsStreamAt a.seed a.stream };
 }
 
-// The seed, most significant byte first, and then zeros.
-fn key_bytes(seed: u64) -> [u8; 32]
-    ensures { result ≡ seed_bytes seed }
-{
-    let b = seed.to_be_bytes();
-    [
-        b[0], b[1], b[2], b[3], b[4], b[5], b[6], b[7], 0, 0, 0, 0, 0, 0, 0, 0, 0, 0, 0, 0, 0, 0,
-        0, 0, 0, 0, 0, 0, 0, 0, 0, 0,
-    ]
-}
-
 impl Draws {
     /// The draws of a seed, from number 0 on.
     pub fn from_seed(seed: u64) -> Draws
         ensures { result ≡ record { seed = seed; place = 0 } }
     {
-        let stream = ChaCha8Rng::from_seed(key_bytes(seed));
+        // The seed, most significant byte first, and then zeros.
+        let b = seed.to_be_bytes();
+        let key = [
+            b[0], b[1], b[2], b[3], b[4], b[5], b[6], b[7], 0, 0, 0, 0, 0, 0, 0, 0, 0, 0, 0, 0, 0,
+            0, 0, 0, 0, 0, 0, 0, 0, 0, 0, 0,
+        ];
+        let stream = ChaCha8Rng::from_seed(key);
         Draws { seed, stream }
     }
 

@@ -6,7 +6,7 @@ ghost use Rattle.boxes.specs.Rooms.{HasRoom};
 ghost use Rattle.patch_picks.specs.Counts.{IsBelowSize};
 ghost use Rattle.patch_picks.specs.Fitting.{FitsAndCovers, HasPatch, HasRoomInEach};
 ghost use Rattle.patch_picks.specs.Lists.{IsWithin, listed};
-ghost use Rattle.patch_picks.specs.Modes.{candidates, grid_placement, least_part, lesser, patch_box, window};
+ghost use Rattle.patch_picks.specs.Modes.{candidates, grid_placement, least_part, patch_box, window};
 ghost use Rattle.patch_picks.specs.Steps.{tolerance};
 
 use crate::Candidates;
@@ -42,17 +42,6 @@ pub enum Mode {
     },
 }
 
-// On each axis the lesser of two sizes.
-fn lesser(a: Size, b: Size) -> Size
-    ensures { result ≡ lesser a b }
-{
-    Size {
-        w: a.w.min(b.w),
-        h: a.h.min(b.h),
-        f: a.f.min(b.f),
-    }
-}
-
 // On each axis the least of the parts of a sample.
 fn least_part(sample: &Volume) -> Size
     ensures least { result ≡ least_part sample.now }
@@ -64,7 +53,12 @@ fn least_part(sample: &Volume) -> Size
     let sizes = parts_of(sample);
     let mut least = part_after(&sizes, 0);
     'parts: for n in 1..sizes.len() {
-        least = lesser(least, part_after(&sizes, n));
+        let part = part_after(&sizes, n);
+        least = Size {
+            w: least.w.min(part.w),
+            h: least.h.min(part.h),
+            f: least.f.min(part.f),
+        };
     }
     least
 }

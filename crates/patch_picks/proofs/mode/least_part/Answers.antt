@@ -13,8 +13,8 @@ is_least c =
 
 pub parts-preserved : goal.parts-preserved
 parts-preserved c =
-    ap (λ least. least_of least (drop (c.parts.n + 1) c.parts_of-sizes.result)) c.lesser-least.ensures
-    ∙ least_step c.parts.least c.part_after.result c.parts.n c.parts_of-sizes.result c.part_after.ensures.size ∙ c.parts.invariant
+    (λ k. least_of (record { w = c.min.ensures k; h = c.min-in-parts.ensures k; f = c.min-in-parts-2.ensures k }) (drop (c.parts.n + 1) c.parts_of-sizes.result))
+    ∙ least_step c.parts.least c.part_after-part.result c.parts.n c.parts_of-sizes.result c.part_after-part.ensures.size ∙ c.parts.invariant
 
 pub returns-clause-least : goal.returns-clause-least
 returns-clause-least c = is_least c

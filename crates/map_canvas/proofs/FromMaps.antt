@@ -4,9 +4,10 @@ use Rattle.std.proofs.Math.Seq.{take-suc}
 use Rattle.std.proofs.lemmas.List.{append-nil, get_or-map, length-map, length-replicate, map-append}
 use Rattle.std.proofs.lemmas.List.Folds.{concat-append}
 use Rattle.std.proofs.lemmas.List.Elements.{All-head, All-map, All-from_get_or, All-replicate, All-tail}
-use Rattle.std.specs.Prelude.{All, Option, Some, None, IsSome, IfSome, replicate, unwrap_or}
+use Rattle.std.specs.Prelude.{All, Option, Some, None, IsSome, IfSome, is_some, replicate, unwrap_or}
 use Rattle.std.specs.List.{concat}
 use mathlib.Core.Bool.{false≢true}
+use mir.Val.{bool_byte}
 use Rattle.cells.specs.declared.place.At.{At}
 use Rattle.cells.specs.declared.place.Size.{Size}
 use Rattle.cells.specs.Places.{cell_count, index_in, place_of}
@@ -25,6 +26,11 @@ length-bytes : (k : ℕ) (cells : List (List ℕ)) → All (IsCell k) cells → 
 length-bytes k [] all = omega arith
 length-bytes k (cell ∷ cells) all =
     omega (arith, length-append cell (concat cells), (All-head (IsCell k) cell cells all).samples, length-bytes k cells (All-tail (IsCell k) cell cells all))
+
+-- the marks of one cell
+pub mark_is : (k : ℕ) (source : Option At) → replicate k (bool_byte (is_some source)) ≡ mark_of k source
+mark_is k None = refl
+mark_is k (Some from) = refl
 
 -- the bytes of one more cell after those of the cells before it
 pub bytes_more : (f : Option At → List ℕ) (sources : List (Option At)) (i : ℕ) (d : Option At) (items more : List ℕ) → i < length sources → items ≡ concat (map f (take i sources)) → more ≡ items ++ f (get_or sources i d)

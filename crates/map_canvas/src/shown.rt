@@ -30,16 +30,6 @@ fn add_cell(bytes: &mut Vec<u8>, sample: &Volume, source: Option<At>) -> Result<
     }
 }
 
-// Adds the marks of a cell, one for each of k samples.
-fn add_mark(bytes: &mut Vec<u8>, k: u32, source: Option<At>) -> Result<(), AllocError>
-    ensures { OnOk result (bytes.new.items ≡ bytes.old.items ++ mark_of k source) }
-{
-    match source {
-        Some(_) => add_times(bytes, 1, k),
-        None => add_times(bytes, 0, k),
-    }
-}
-
 /// The bytes of the cells of these sources, one after another: those of the sample's cells, and 0 for each
 /// sample of a cell without a source. The list has room for `n` bytes from the start.
 pub(crate) fn shown_bytes(
@@ -71,7 +61,8 @@ pub(crate) fn mark_bytes(
 {
     let mut bytes = Vec::with_capacity(alloc, n)?;
     for source in sources {
-        add_mark(&mut bytes, k, source.source())?;
+        let mark = u8::from(source.source().is_some());
+        add_times(&mut bytes, mark, k)?;
     }
     Ok(bytes)
 }

@@ -1,8 +1,10 @@
 -- Numbers of pairs: each below the count belongs to one pair.
-use Rattle.std.proofs.Common.{◌≡◌, ℕ, zero, suc, ◌+◌, ◌-◌, ◌*◌, ◌/◌, ◌%◌, ◌<◌, ◌≤◌, refl, sym, ap, ◌∙◌, subst, arith, Bool, true, false, ◌⊎◌, inl, inr, ⊎_elim}
+use Rattle.std.proofs.Common.{◌≡◌, ℕ, zero, suc, ◌+◌, ◌-◌, ◌*◌, ◌/◌, ◌%◌, ◌<◌, ◌≤◌, refl, sym, ap, ◌∙◌, subst, arith, Bool, true, false, ◌⊎◌, inl, inr, ⊎_elim, Fits, w64}
+use Rattle.std.specs.Prelude.{if◌then◌else◌, nat_lt, ◌^◌}
+use Rattle.std.proofs.Math.Nat.{mul-le-mul_left, mul-le-mul_right}
 use Rattle.std.proofs.Math.Numerals.{add-one}
 use Rattle.std.proofs.lemmas.Bool.{cases_lt, cases_order}
-use borrow.Author.Tests.{le-ltb}
+use borrow.Author.Tests.{le-ltb, lt-ltb}
 use Rattle.cells.specs.declared.place.Size.{Size}
 use Rattle.cells.specs.declared.place.Axis.{Axis}
 use Rattle.cells.specs.declared.place.Axis.TheVariants.{X, Y, F}
@@ -176,3 +178,39 @@ pairs_before_last size some =
 
 pub pairs_of_last : (size : Size) → IsSmall size → pair_count size ≡ pairs_before size (raster_index size (size.w - 1) (size.h - 1) (size.f - 1))
 pairs_of_last size small = pairs_before_last size (record { w = small.axes.w.0; h = small.axes.h.0; f = small.axes.f.0 })
+
+-- the pairs along X and along Y before a cell are fewer than the cells
+pub along_x : (size : Size) (x y f : ℕ) → IsSmall size → AreCounts size x y f → (size.w - 1) * (y + size.h * f) + x ≤ 33554432
+along_x size x y f small are =
+    let below : x + size.w * (y + size.h * f) < cell_count size = index_below size x y f are in
+    let less : size.w - 1 ≤ size.w = omega arith in
+    fewer x ((size.w - 1) * (y + size.h * f)) (size.w * (y + size.h * f)) (cell_count size) (mul-le-mul_right (y + size.h * f) less) below small.cells
+  where
+    fewer : (x a b n : ℕ) → a ≤ b → x + b < n → n ≤ 33554432 → a + x ≤ 33554432
+    fewer x a b n le lt few = omega arith
+
+pub along_y : (size : Size) (x y f b : ℕ) → IsSmall size → AreCounts size x y f → b ≤ x → size.w * (y + (size.h - 1) * f) + b ≤ 33554432
+along_y size x y f b small are le =
+    let below : x + size.w * (y + size.h * f) < cell_count size = index_below size x y f are in
+    let less : size.h - 1 ≤ size.h = omega arith in
+    let rows : y + (size.h - 1) * f ≤ y + size.h * f = more y ((size.h - 1) * f) (size.h * f) (mul-le-mul_right f less) in
+    fewer x b (size.w * (y + (size.h - 1) * f)) (size.w * (y + size.h * f)) (cell_count size) le (mul-le-mul_left size.w rows) below small.cells
+  where
+    more : (y a b : ℕ) → a ≤ b → y + a ≤ y + b
+    more y a b le = omega arith
+
+    fewer : (x c a b n : ℕ) → c ≤ x → a ≤ b → x + b < n → n ≤ 33554432 → a + c ≤ 33554432
+    fewer x c a b n some le lt few = omega arith
+
+pub along_fits : (a b : ℕ) → a + b ≤ 33554432 → Fits w64 a × Fits w64 (a + b) × (a + b ≤ 2 ^ 37)
+along_fits a b le = (omega arith, omega arith, omega arith)
+
+pub if_at_most : (b : Bool) (x : ℕ) → (if b then x else 0) ≤ x
+if_at_most true x = omega arith
+if_at_most false x = omega arith
+
+pub if_less : (a n x : ℕ) → a < n → (if nat_lt a n then x else 0) ≡ x
+if_less a n x lt = ap (λ b. if b then x else 0) (lt-ltb a n lt)
+
+pub if_not_less : (a n x : ℕ) → n ≤ a → (if nat_lt a n then x else 0) ≡ 0
+if_not_less a n x le = ap (λ b. if b then x else 0) (le-ltb a n le)

@@ -105,7 +105,6 @@ impl Counts {
     }
 
     /// The next cell along an axis, where the box has one.
-    #[tactic(auto, using(crate::proofs::Cells::next_x, crate::proofs::Cells::next_y, crate::proofs::Cells::next_f))]
     pub fn next_along(self, size: Size, axis: Axis) -> Counts
         requires { IsPair size axis self.x self.y self.f }
         ensures counts { AreCounts size result.x result.y result.f }

@@ -1,12 +1,10 @@
 // The files of a quilt, and the report.
-ghost use Rattle.std.specs.Prelude.{◌≡◌};
 ghost use Rattle.shelf_traits.specs.Files.{OnlyWrites};
 ghost use Rattle.command.specs.Writing.{WritesRun, text_names};
-ghost use Rattle.outputs.specs.BlockOutputs.{CanBeWritten, quilt_files, quilt_head};
+ghost use Rattle.outputs.specs.BlockOutputs.{CanBeWritten, quilt_files};
 
 use crate::quilt::PictureQuilt;
 use crate::record_file::BlocksFile;
-use cells::{Size, Volume};
 use cert_file::Head;
 use command::{Then, write_run};
 use command_files::{CellMapFile, OutFile, OutWriter};
@@ -15,17 +13,6 @@ use quilted::QuiltRun;
 use shelf_traits::{Shelf, Sink};
 use source_map::Version;
 use synth_report::{Fault, FileOf, Summary};
-
-// The head of the record.
-fn head_over(size: Size, volume: &Volume) -> Head
-    ensures { result ≡ quilt_head size volume.now }
-{
-    Head {
-        output: size,
-        samples: volume.sizes(),
-        version: Version::One,
-    }
-}
 
 /// Writes the picture of a quilt with the sample's maxval, its map, its record, and the report. No memory is
 /// taken.
@@ -60,7 +47,11 @@ pub fn write_quilt<S: Shelf, O: Sink>(
     };
     let record = BlocksFile {
         name: &names.record_file,
-        head: head_over(asked.size, volume),
+        head: Head {
+            output: asked.size,
+            samples: volume.sizes(),
+            version: Version::One,
+        },
         blocks: made.quilted.blocks.as_slice(),
     };
     let mut files = Then(picture, Then(map, record));

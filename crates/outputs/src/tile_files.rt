@@ -14,17 +14,6 @@ use shelf_traits::{Shelf, Sink};
 use source_map::Version;
 use synth_report::{Fault, FileOf, Summary};
 
-// The summary of a tiling.
-fn summary_of(job: &TileJob, made: &TiledSample) -> Summary
-    ensures { result ≡ tile_summary job.now made.now }
-{
-    Summary::Tile {
-        size: job.size,
-        placements: made.tiled.placements,
-        seams: made.seams,
-    }
-}
-
 /// Writes the picture of a tiling, its map, and the report. No memory is taken.
 pub fn write_tiling<S: Shelf, O: Sink>(
     job: &TileJob,
@@ -53,7 +42,11 @@ pub fn write_tiling<S: Shelf, O: Sink>(
         samples: made.sample.volume.sizes(),
         version: Version::One,
     };
-    let summary = summary_of(job, made);
+    let summary = Summary::Tile {
+        size: job.size,
+        placements: made.tiled.placements,
+        seams: made.seams,
+    };
     let mut files = Then(picture, map);
     let answer = write_run(&mut files, summary, shelf, out);
     // Given to `drop`, the end of the files is proved once, by itself.

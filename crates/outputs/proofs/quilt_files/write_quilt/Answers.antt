@@ -19,7 +19,7 @@ write_run-answer-requires g c =
     let picture = subst (IsPicture made.sample.maxval) (sym c.picture.ensures.picture) (picture_ready rating asked made is) in
     let map = subst (λ sizes. IsWritable c.map.result.now sizes One) (sym c.sizes.ensures)
     (subst (λ m. IsWritable m (sizes_of made.sample.volume) One) (sym c.map.ensures.map) (map_ready rating asked made is)) in
-    let record_file = subst (λ head. AreBlocksInForm head c.as_slice.result.now) (sym c.head_over.ensures)
+    let record_file = subst (λ sizes. AreBlocksInForm (record { output = asked.size; samples = sizes; version = One }) c.as_slice.result.now) (sym c.sizes-2.ensures)
     (subst (AreBlocksInForm (quilt_head asked.size made.sample.volume)) (sym c.as_slice.ensures) (record_ready rating asked made is)) in
     (picture, (map, record_file))
 
@@ -34,9 +34,9 @@ returns-clause-wrote g c =
     let out' = g.O.Sink.state c.write_run-answer.new.out in
     let given : List FileText =
     file_text part.Out names.out (p6_form made.sample.maxval c.picture.result.now) ∷ file_text part.Map names.map (cell_map_form c.map.result.now c.sizes.result One)
-    ∷ file_text part.Record names.record_file (blocks_form c.head_over.result c.as_slice.result.now) ∷ [] in
+    ∷ file_text part.Record names.record_file (blocks_form (record { output = asked.size; samples = c.sizes-2.result; version = One }) c.as_slice.result.now) ∷ [] in
     let same : given ≡ quilt_files names asked.size made =
     λ i. file_text part.Out names.out (p6_form made.sample.maxval (c.picture.ensures.picture i))
     ∷ file_text part.Map names.map (cell_map_form (c.map.ensures.map i) (c.sizes.ensures i) One)
-    ∷ file_text part.Record names.record_file (blocks_form (c.head_over.ensures i) (c.as_slice.ensures i)) ∷ [] in
+    ∷ file_text part.Record names.record_file (blocks_form (record { output = asked.size; samples = c.sizes-2.ensures i; version = One }) (c.as_slice.ensures i)) ∷ [] in
     subst (λ files. WritesRun files c.args.summary was now out out' c.write_run-answer.result) same c.write_run-answer.ensures.wrote

@@ -41,5 +41,4 @@ returns-clause-wrote g c =
     let same : given ≡ tile_files job made =
     λ i. file_text part.Out job.out (text i)
     ∷ file_text part.Map job.map (cell_map_form (c.map.ensures.map i) (c.sizes.ensures i) One) ∷ [] in
-    subst (λ files. WritesRun files (tile_summary job made) was now out out' c.write_run-answer.result) same
-    (subst (λ summary. WritesRun given summary was now out out' c.write_run-answer.result) c.summary_of-summary.ensures c.write_run-answer.ensures.wrote)
+    subst (λ files. WritesRun files (tile_summary job made) was now out out' c.write_run-answer.result) same c.write_run-answer.ensures.wrote

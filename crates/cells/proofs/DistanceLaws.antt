@@ -1,6 +1,6 @@
 -- The laws of the distance, which hold of all places, inside and outside: it is symmetric, a place has
 -- distance 0 to itself, the way past a third place is not shorter, and it is bounded.
-use Rattle.std.proofs.Common.{◌≡◌, ℕ, ◌+◌, ◌*◌, ◌<◌, ◌≤◌, List, [], ◌∷◌, length, refl, sym, ◌∙◌, subst, arith}
+use Rattle.std.proofs.Common.{◌≡◌, ℕ, ◌+◌, ◌*◌, ◌<◌, ◌≤◌, List, [], ◌∷◌, get_or, length, refl, sym, ◌∙◌, subst, arith}
 use Rattle.std.specs.Prelude.{Option, Some, None}
 use Rattle.std.specs.Int.{abs_diff}
 use Rattle.std.specs.List.{AllByRecursion, zip}
@@ -18,6 +18,20 @@ difference_cons x a y b = sum_by-cons (λ pair. abs_diff pair.0 pair.1) (x, y) (
 pub difference_same : (a : List ℕ) → difference a a ≡ 0
 difference_same [] = refl
 difference_same (x ∷ a) = omega (arith, difference_cons x a x a, difference_same a)
+
+-- of two cells of 3 samples
+pub difference_three : (a b : List ℕ) → length a ≡ 3 → length b ≡ 3
+    → abs_diff (get_or a 0 0) (get_or b 0 0) + abs_diff (get_or a 1 0) (get_or b 1 0) + abs_diff (get_or a 2 0) (get_or b 2 0) ≡ difference a b
+difference_three [] b la lb = absurd (omega (arith, la))
+difference_three (x ∷ []) b la lb = absurd (omega (arith, la))
+difference_three (x ∷ y ∷ []) b la lb = absurd (omega (arith, la))
+difference_three (x ∷ y ∷ z ∷ w ∷ a) b la lb = absurd (omega (arith, la))
+difference_three (x ∷ y ∷ z ∷ []) [] la lb = absurd (omega (arith, lb))
+difference_three (x ∷ y ∷ z ∷ []) (p ∷ []) la lb = absurd (omega (arith, lb))
+difference_three (x ∷ y ∷ z ∷ []) (p ∷ q ∷ []) la lb = absurd (omega (arith, lb))
+difference_three (x ∷ y ∷ z ∷ []) (p ∷ q ∷ r ∷ s ∷ b) la lb = absurd (omega (arith, lb))
+difference_three (x ∷ y ∷ z ∷ []) (p ∷ q ∷ r ∷ []) la lb =
+    omega (arith, difference_cons x (y ∷ z ∷ []) p (q ∷ r ∷ []), difference_cons y (z ∷ []) q (r ∷ []), difference_cons z [] r [], difference_same [])
 
 pub difference_symmetric : (a b : List ℕ) → difference a b ≡ difference b a
 difference_symmetric [] [] = refl

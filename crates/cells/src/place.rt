@@ -142,18 +142,11 @@ pub struct Box3 {
     pub size: Size,
 }
 
-// How far a coordinate lies past another.
-fn steps_from(corner: i32, z: i32) -> i64
-    ensures { result ≡ z -ℤ corner }
-{
-    i64::from(z) - i64::from(corner)
-}
-
 // Whether a coordinate lies on a run of cells along one axis.
 fn is_on_run(corner: i32, len: u32, z: i32) -> bool
     ensures { IsTrue result ↔ IsSome (on_axis len (z -ℤ corner)) }
 {
-    let step = steps_from(corner, z);
+    let step = i64::from(z) - i64::from(corner);
     0 <= step && step < i64::from(len)
 }
 

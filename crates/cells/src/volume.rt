@@ -62,13 +62,6 @@ fn fill_at(bytes: &mut [u8], start: usize, len: usize, byte: u8)
     }
 }
 
-// So many bytes of 0.
-fn zeros(alloc: Global, n: usize) -> Result<Vec<u8>, AllocError>
-    ensures { IfOk result (λ v. v.items ≡ replicate n 0) }
-{
-    vec![in alloc; 0u8; n]
-}
-
 impl Volume {
     /// A volume of that size with k bytes of 0 in each cell. The one error is out of memory.
     pub fn make(alloc: Global, size: Size, k: u32) -> Result<Volume, AllocError>
@@ -76,7 +69,7 @@ impl Volume {
         requires samples { (1 ≤ k) × (k ≤ MOST_CHANNELS) }
         ensures { IfOk result (λ v. v ≡ blank size k) }
     {
-        let bytes = zeros(alloc, k as usize * size.cells())?;
+        let bytes = vec![in alloc; 0u8; k as usize * size.cells()]?;
         let more = More::none();
         Ok(Volume {
             size,

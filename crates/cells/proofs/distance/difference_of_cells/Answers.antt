@@ -1,9 +1,13 @@
-use Rattle.std.proofs.Common.{arith}
+use Rattle.std.proofs.Common.{◌≡◌, ◌+◌, ◌∙◌, arith, length}
 use Rattle.std.proofs.lemmas.Grind.{common_steps}
+use Rattle.cells.proofs.DistanceLaws.{difference_three}
 use Rattle.cells.proofs.distance.difference_of_cells.Goals as goal
 
 pub returns-in-len3-len3 : goal.returns-in-len3-len3
-returns-in-len3-len3 c = grind (arith, common_steps)
+returns-in-len3-len3 c =
+    let la : length c.args.a.now ≡ 3 = grind (arith, common_steps) in
+    let lb : length c.args.b.now ≡ 3 = grind (arith, common_steps) in
+    (λ k. c.apart-in-len3-len3.ensures k + c.apart-in-len3-len3-2.ensures k + c.apart-in-len3-len3-3.ensures k) ∙ difference_three c.args.a.now c.args.b.now la lb
 
 pub returns-in-len1-len1 : goal.returns-in-len1-len1
 returns-in-len1-len1 c = grind (arith, common_steps)

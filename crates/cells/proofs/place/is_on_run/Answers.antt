@@ -7,3 +7,6 @@ returns-then-step-ge0 c = grind (arith, common_steps)
 
 pub returns-else-step-ge0 : goal.returns-else-step-ge0
 returns-else-step-ge0 c = grind (arith, common_steps)
+
+pub overflow_sub-step : goal.overflow_sub-step
+overflow_sub-step c = grind (arith, common_steps)

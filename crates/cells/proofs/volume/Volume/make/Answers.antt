@@ -12,7 +12,7 @@ returns c =
     let volume : List (List ℕ) → Cells = λ cells. record { size = c.args.size; more = []; k = c.args.k; cells = cells } in
     let count = cell_count c.args.size in
     ap (λ (more : List Size). volume_over c.args.size more c.args.k c.in_ok-bytes.bytes.items) c.none-more.ensures
-    ∙ ap (λ bytes. volume (cells_of c.args.k count bytes)) (c.in_ok-bytes.ensures {u = tt} ∙ ap (λ n. replicate {A = ℕ} (c.args.k * n) 0) c.cells.ensures)
+    ∙ ap (λ bytes. volume (cells_of c.args.k count bytes)) ((c.in_ok-bytes.ensures {u = tt}).items_if_clones_equal (λ y same. same) ∙ ap (λ n. replicate {A = ℕ} (c.args.k * n) 0) c.cells.ensures)
     ∙ ap volume (cells_of-same c.args.k count (c.args.k * count) 0 (omega arith))
 
 pub invariant_of-result : goal.invariant_of-result

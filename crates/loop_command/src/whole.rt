@@ -6,7 +6,7 @@ ghost use Rattle.y4m_clip.specs.Writing.{writer_of};
 ghost use Rattle.command.specs.Outcomes.{Leaves};
 ghost use Rattle.command.specs.Writing.{WritesRun, text_names};
 ghost use Rattle.job_words.specs.LoopWords.{IsLoopJob};
-ghost use Rattle.loop_command.specs.Loops.{IsLoopMade, loop_command, loop_files, loop_head, loop_size, loop_summary};
+ghost use Rattle.loop_command.specs.Loops.{IsLoopMade, loop_command, loop_files, loop_size, loop_summary};
 
 use crate::files::{FrameMapFile, LoopFile, WalkFile};
 use crate::plan::{LoopedClip, plan};
@@ -30,18 +30,6 @@ fn loop_size(job: &LoopJob, sample: &Volume) -> Size
         w: size.w,
         h: size.h,
         f: job.length,
-    }
-}
-
-// The head of the record of a loop.
-fn loop_head(job: &LoopJob, sample: &Volume) -> Head
-    requires { IsOnePart sample.now }
-    ensures { result ≡ loop_head job.now sample.now }
-{
-    Head {
-        output: loop_size(job, sample),
-        samples: sample.sizes(),
-        version: Version::One,
     }
 }
 
@@ -78,6 +66,7 @@ fn write_loop<S: Shelf, O: Sink>(
 {
     let sample = &looped.clip.volume;
     let walk = looped.found.walk.as_slice();
+    let size = loop_size(job, sample);
     let frames = LoopFile {
         name: &job.names.out,
         writer,
@@ -86,13 +75,17 @@ fn write_loop<S: Shelf, O: Sink>(
     };
     let map = FrameMapFile {
         name: &job.names.map,
-        size: loop_size(job, sample),
+        size,
         sample: sample.size(),
         frames: walk,
     };
     let walk_file = WalkFile {
         name: &job.names.record_file,
-        head: loop_head(job, sample),
+        head: Head {
+            output: size,
+            samples: sample.sizes(),
+            version: Version::One,
+        },
         taps: job.taps,
         gap: job.gap,
         walk,

@@ -1,5 +1,6 @@
 use Rattle.std.proofs.Common.{◌≡◌, ◌∙◌, List, [], ◌∷◌, ap, subst, sym}
 use Rattle.source_map.specs.MapFiles.{IsFrameMap, frame_map_form}
+use Rattle.source_map.specs.declared.head.Version.TheVariants.{One}
 use Rattle.y4m_clip.specs.Writing.{Writer, clip_form, writer_of}
 use Rattle.cert_file.specs.RecordFiles.{walk_file_form}
 use Rattle.cert_file.specs.WalkForms.{IsWalkInForm}
@@ -22,12 +23,13 @@ write_run-requires g c =
     let tables = c.as_slice.result.now in
     let frames = subst (λ (w : Writer). CanWriteFrames w sample walk) (sym c.requires.writer)
     (subst (CanWriteFrames (writer_of looped.clip.form (loop_size sample job.length)) sample) (sym c.as_slice-walk.ensures) (frames_ready job lawful looped made)) in
-    let map = subst (λ size. IsFrameMap size c.size.result walk) (sym c.loop_size.ensures)
+    let map = subst (λ size. IsFrameMap size c.size.result walk) (sym c.loop_size-size.ensures)
     (subst (λ size. IsFrameMap (loop_size sample job.length) size walk) (sym c.size.ensures.size)
     (subst (IsFrameMap (loop_size sample job.length) sample.size) (sym c.as_slice-walk.ensures) (map_ready job lawful looped made))) in
-    let record_file = subst (λ head. IsWalkInForm head job.gap walk tables) (sym c.loop_head.ensures)
+    let record_file = subst (λ size. IsWalkInForm (record { output = size; samples = c.sizes.result; version = One }) job.gap walk tables) (sym c.loop_size-size.ensures)
+    (subst (λ sizes. IsWalkInForm (record { output = loop_size sample job.length; samples = sizes; version = One }) job.gap walk tables) (sym c.sizes.ensures)
     (subst (λ w. IsWalkInForm (loop_head job sample) job.gap w tables) (sym c.as_slice-walk.ensures)
-    (subst (IsWalkInForm (loop_head job sample) job.gap looped.found.walk) (sym c.as_slice.ensures) (record_ready job lawful looped made))) in
+    (subst (IsWalkInForm (loop_head job sample) job.gap looped.found.walk) (sym c.as_slice.ensures) (record_ready job lawful looped made)))) in
     (frames, (map, record_file))
 
 pub returns-clause-wrote : goal.returns-clause-wrote
@@ -49,11 +51,11 @@ returns-clause-wrote g c =
     ∙ taken_clip sample made.volume found.walk (frames_below job lawful looped made) form in
     let given : List FileText =
     file_text part.Out job.names.out (walked_clip c.args.writer sample c.as_slice-walk.result.now)
-    ∷ file_text part.Map job.names.map (frame_map_form c.loop_size.result c.size.result c.as_slice-walk.result.now)
-    ∷ file_text part.Record job.names.record_file (walk_file_form c.loop_head.result job.taps job.gap c.as_slice-walk.result.now c.as_slice.result.now) ∷ [] in
+    ∷ file_text part.Map job.names.map (frame_map_form c.loop_size-size.result c.size.result c.as_slice-walk.result.now)
+    ∷ file_text part.Record job.names.record_file (walk_file_form (record { output = c.loop_size-size.result; samples = c.sizes.result; version = One }) job.taps job.gap c.as_slice-walk.result.now c.as_slice.result.now) ∷ [] in
     let same : given ≡ loop_files job looped =
     λ i. file_text part.Out job.names.out (frames i)
-    ∷ file_text part.Map job.names.map (frame_map_form (c.loop_size.ensures i) (c.size.ensures.size i) (c.as_slice-walk.ensures i))
-    ∷ file_text part.Record job.names.record_file (walk_file_form (c.loop_head.ensures i) job.taps job.gap (c.as_slice-walk.ensures i) (c.as_slice.ensures i)) ∷ [] in
+    ∷ file_text part.Map job.names.map (frame_map_form (c.loop_size-size.ensures i) (c.size.ensures.size i) (c.as_slice-walk.ensures i))
+    ∷ file_text part.Record job.names.record_file (walk_file_form (record { output = c.loop_size-size.ensures i; samples = c.sizes.ensures i; version = One }) job.taps job.gap (c.as_slice-walk.ensures i) (c.as_slice.ensures i)) ∷ [] in
     subst (λ files. WritesRun files (loop_summary job looped) was now out out' c.write_run.result) same
     (subst (λ summary. WritesRun given summary was now out out' c.write_run.result) c.summary_of-summary.ensures c.write_run.ensures.wrote)

@@ -1,5 +1,5 @@
 // The marks of a merge.
-ghost use Rattle.std.specs.Prelude.{◌≡◌, ◌↔◌, IfOk, IsTrue, length, slice_index_or};
+ghost use Rattle.std.specs.Prelude.{◌≡◌, ◌↔◌, IfOk, IsTrue, length};
 ghost use Rattle.cells.specs.Cells.{IsOnePart};
 ghost use Rattle.cells.specs.Places.{IsSmall};
 ghost use Rattle.photo_merge.specs.Marks.{IsFoundBad, IsMark, earlier_marks, is_earlier, mark_at};
@@ -7,22 +7,16 @@ ghost use Rattle.photo_merge.specs.Marks.{IsFoundBad, IsMark, earlier_marks, is_
 use cells::{At, Size, Volume};
 use std::alloc::{AllocError, Global};
 
-// The first byte of a cell.
-fn first_byte(cell: &[u8]) -> u32
-    ensures { result ≡ slice_index_or cell.now 0 0 }
-{
-    match cell.first() {
-        Some(byte) => u32::from(*byte),
-        None => 0,
-    }
-}
-
-// The mark of a place: the number of a picture, or 0 where it is unmarked or outside.
+// The mark of a place, the first byte of its cell: the number of a picture, or 0 where it is unmarked or
+// outside.
 pub(crate) fn mark_at(marks: &Volume, p: At) -> u32
     ensures { result ≡ mark_at marks.now p }
 {
     match marks.cell(p) {
-        Some(cell) => first_byte(cell),
+        Some(cell) => match cell.first() {
+            Some(byte) => u32::from(*byte),
+            None => 0,
+        },
         None => 0,
     }
 }

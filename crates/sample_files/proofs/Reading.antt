@@ -1,6 +1,6 @@
 -- The samples read so far, and how the reading ends.
 use Rattle.std.proofs.Common.{◌≡◌, ℕ, zero, suc, ◌+◌, ◌*◌, ◌<◌, ◌≤◌, inl, inr, ◌++◌, List, [], ◌∷◌, length, get_or, take, refl, sym, ap, ◌∙◌, subst, arith, true, add-one}
-use Rattle.std.specs.Prelude.{slice_get, Some, Err}
+use Rattle.std.specs.Prelude.{slice_get, Some, Result, Ok, Err}
 use Rattle.std.specs.List.{AllByRecursion}
 use Rattle.std.proofs.Math.Seq.{take-suc}
 use Rattle.std.proofs.Common.{length-append}
@@ -12,6 +12,7 @@ use Rattle.cells.specs.declared.place.Size.{Size}
 use Rattle.cells.specs.Cells.{Cells, count_of, sizes_of, with_part}
 use Rattle.cells.specs.PartLists.{parts_of}
 use Rattle.cells.proofs.Joining.{count_behind}
+use Rattle.shelf_traits.specs.declared.fault.What.TheVariants.{Cells as CellsLimit}
 use Rattle.shelf_traits.specs.Files.{Files, ShelfState, OnlyReads, OnlyReadsFile, Changes, content_of}
 use Rattle.shelf_traits.proofs.FileLaws.{among_head, only_reads_of_more, rose_later, told_both, told_then, told_weaker}
 use Rattle.synth_report.specs.declared.fault.FileOf.TheVariants as part
@@ -25,7 +26,7 @@ use Rattle.sample_files.specs.declared.several.Asked.{Asked}
 use Rattle.sample_files.specs.declared.several.Samples.{Samples}
 use Rattle.sample_files.specs.Samples.{IsPictureForm, IsSampleIn, IsSoundIn, StandsIn, can_turn}
 use Rattle.sample_files.specs.Several.{AreSoundSamples, AreSoundSeveral, GoesAfter, MayRefuseSamples, NoneRefusedOf, RefusesFirst, RefusesNext, RefusesSeveral, SeveralAreRefused, SeveralReadAs, StandAlike, StandForParts, StandForSeveral, StandsAlike, contents, numbered_files, sample_files, with_turns}
-use Rattle.sample_files.specs.Steps.{IsFirstRead, IsFirstRefused, IsJoined, IsNextRead, IsNextRefused, IsSoundRead, IsStarted, NotFirst, NotNext}
+use Rattle.sample_files.specs.Steps.{IsFirstRead, IsFirstRefused, IsJoined, IsNextRead, IsNextRefused, IsSoundRead, IsStarted, Joins, NextReadsAs, NotFirst, NotNext}
 use Rattle.sample_files.proofs.OneSample.{count_alone, each_behind, sound_alone, sound_count, sound_first, sound_joined}
 use Rattle.sample_files.proofs.Joined.{first_part_size, parts_alone}
 use Rattle.sample_files.proofs.OneAnswer.{none_at_first, none_refused}
@@ -293,3 +294,23 @@ module _ {those : List (List ℕ)} (asked : Asked) (first : List ℕ) (names : L
   next_unread then_reads (Mark index) left = refused (Mark index) left
   next_unread then_reads (Write its) left = refused (Write its) left
   next_unread then_reads (NoLoop length) left = refused (NoLoop length) left
+
+-- how the reading of the sample of a number ends where the sample itself is read
+pub next_answer : (asked : Asked) (before : Samples) (number : ℕ) (name : List ℕ) (was now : ShelfState) (after : Samples) (sample : Sample) (result : Result (Unit {0}) Fault)
+    → 2 ≤ number → Changes was now (λ files left. IsSampleIn asked.pictures (content_of files name) sample) → Joins asked number before sample after result
+    → NextReadsAs asked before number name was now after result
+next_answer asked before number name was now after sample (Ok done) some read joins = record { sample = sample; read = read; joined = joins }
+next_answer asked before number name was now after sample (Err fault) some read (inl e) = subst (NotNext asked before number name was now) (sym e) tt
+next_answer asked before number name was now after sample (Err fault) some read (inr (inl unlike)) =
+    subst (NotNext asked before number name was now) (sym unlike.1) (record {
+      known = (some, omega arith);
+      refused = told_weaker (λ files left. IsSampleIn asked.pictures (content_of files name) sample) (λ files left. RefusesNext asked before number (content_of files name) (Unlike (part.More number))) was.files now.files
+          (λ files left read. inr (inl (record { sample = sample; read = read; unlike = unlike.0; is = refl }))) read;
+    })
+next_answer asked before number name was now after sample (Err fault) some read (inr (inr (goes, passes))) =
+    let limit : Fault = Limit CellsLimit (with_turns asked.turns (count_of before.volume + count_of sample.volume)) MOST_SAMPLE_CELLS in
+    subst (NotNext asked before number name was now) (sym passes.1) (record {
+      known = tt;
+      refused = told_weaker (λ files left. IsSampleIn asked.pictures (content_of files name) sample) (λ files left. RefusesNext asked before number (content_of files name) limit) was.files now.files
+          (λ files left read. inr (inr (record { sample = sample; read = read; goes = goes; passes = (passes.0, refl) }))) read;
+    })

@@ -117,7 +117,14 @@ pub fn merge_step(
     let placement = whole_from(pictures, number, size);
     let placed = place_held(alloc, &mut next, pictures, placement, Some(&held));
     drop(held);
-    placed?;
+    match placed {
+        Ok(_) => {}
+        // Given to `drop`, the end of the canvas is proved once, by itself.
+        Err(error) => {
+            drop(next);
+            return Err(error);
+        }
+    }
     Ok(next)
 }
 

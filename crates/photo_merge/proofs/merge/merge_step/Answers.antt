@@ -41,14 +41,14 @@ pub returns-clause-next : goal.returns-clause-next
 returns-clause-next c =
     let d = (goal.at.returns-clause-next c).After-deref in
     placed_next c.args.pictures.now c.args.marks.now c.args.number c.args.canvas.map c.in_ok-next.next c.place_held-placed.new.canvas c.whole_from-placement.result c.deref.result.now
-    c.in_ok-placed.field-0 (next_is d) (placement_is d) (held_is d) (c.in_ok-placed.ensures {u = tt}).placed
+    c.in-Ok.field-0 (next_is d) (placement_is d) (held_is d) (c.in-Ok.ensures {u = tt}).placed
 
 pub returns-clause-full : goal.returns-clause-full
 returns-clause-full c =
     let d = (goal.at.returns-clause-full c).After-deref in
     let next : MergesNext c.args.pictures.now c.args.marks.now c.args.number c.args.canvas.map c.place_held-placed.new.canvas.map =
     placed_next c.args.pictures.now c.args.marks.now c.args.number c.args.canvas.map c.in_ok-next.next c.place_held-placed.new.canvas c.whole_from-placement.result c.deref.result.now
-    c.in_ok-placed.field-0 (next_is d) (placement_is d) (held_is d) (c.in_ok-placed.ensures {u = tt}).placed in
+    c.in-Ok.field-0 (next_is d) (placement_is d) (held_is d) (c.in-Ok.ensures {u = tt}).placed in
     stays_full c.args.pictures.now c.args.marks.now c.args.number c.args.canvas.map c.place_held-placed.new.canvas.map next c.requires.full
 
 pub place_held-placed-requires-clause-fits : goal.place_held-placed-requires-clause-fits

@@ -187,14 +187,15 @@ pub fn read_several<S: Shelf>(
 {
     let mut samples = read_first(alloc, shelf, asked, first.as_text())?;
     for (i, name) in more.iter().enumerate() {
-        read_next(
-            alloc,
-            shelf,
-            asked,
-            name.as_text(),
-            i as u8 + 2,
-            &mut samples,
-        )?;
+        let number = i as u8 + 2;
+        match read_next(alloc, shelf, asked, name.as_text(), number, &mut samples) {
+            Ok(()) => {}
+            // Given to `drop`, the end of the samples is proved once, by itself.
+            Err(fault) => {
+                drop(samples);
+                return Err(fault);
+            }
+        }
     }
     Ok(samples)
 }

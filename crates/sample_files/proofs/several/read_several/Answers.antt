@@ -31,16 +31,14 @@ loop-i-init g c =
       count = ap (λ more. suc (length more)) one.started.one;
     }
 
-pub returns-in_err-read_next-clause-answer : goal.returns-in_err-read_next-clause-answer
-returns-in_err-read_next-clause-answer g c =
+pub returns-in-Err-clause-answer : goal.returns-in-Err-clause-answer
+returns-in-Err-clause-answer g c =
     let was = g.S.Shelf.state c.args.shelf.now in
     let mid = g.S.Shelf.state c.loop-i.shelf in
     let now = g.S.Shelf.state c.read_next.new.shelf in
-    let fault = c.in_err-read_next.field-0.0 in
+    let fault = c.in-Err.fault in
     let name = c.index-more-i.result in
-    let p = err_from_is_err_and c.from_residual-in_err-read_next.result c.from_residual-in_err-read_next.ensures.1 in
-    let left = subst (λ n. NotNext c.args.asked c.loop-i.samples (c.loop-i.i + 2) n mid now fault) c.as_text-in-loop-i.ensures (c.in_err-read_next.ensures {u = tt}).answer in
-    rw (p.1, p.2)
+    let left = subst (λ n. NotNext c.args.asked c.loop-i.samples (c.loop-i.i + 2) n mid now fault) c.as_text-in-loop-i.ensures (c.in-Err.ensures {u = tt}).answer in
     (next_unread c.args.asked c.args.first.now c.args.more.now c.loop-i.i name c.loop-i.samples was mid now c.loop-i-test.true c.index-more-i.is c.loop-i.invariant.reads c.loop-i.invariant.read c.read_next.ensures.reads fault left)
 
 pub loop-i-preserved : goal.loop-i-preserved
@@ -49,7 +47,7 @@ loop-i-preserved g c =
     let mid = g.S.Shelf.state c.loop-i.shelf in
     let now = g.S.Shelf.state c.read_next.new.shelf in
     let name = c.index-more-i.result in
-    let next = subst (λ n. IsNextRead c.args.asked c.loop-i.samples n mid now c.read_next.new.samples) c.as_text-in-loop-i.ensures (c.in_ok-read_next.ensures {u = tt}).answer in
+    let next = subst (λ n. IsNextRead c.args.asked c.loop-i.samples n mid now c.read_next.new.samples) c.as_text-in-loop-i.ensures (c.in-Ok.ensures {u = tt}).answer in
     record {
       reads = only_reads_then was mid now c.loop-i.invariant.reads
           (next_reads c.args.first.now c.args.more.now c.loop-i.i name c.as_text-in-loop-i.result.now c.loop-i-test.true c.index-more-i.is c.as_text-in-loop-i.ensures mid now c.read_next.ensures.reads);
@@ -58,8 +56,8 @@ loop-i-preserved g c =
       count = omega (arith, ap length next.joined.sizes, c.loop-i.invariant.count, length-append (c.loop-i.samples.volume.size ∷ c.loop-i.samples.volume.more) (next.sample.volume.size ∷ []));
     }
 
-pub returns-in_err-read_next-clause-reads : goal.returns-in_err-read_next-clause-reads
-returns-in_err-read_next-clause-reads g c =
+pub returns-in-Err-clause-reads : goal.returns-in-Err-clause-reads
+returns-in-Err-clause-reads g c =
     let mid = g.S.Shelf.state c.loop-i.shelf in
     let now = g.S.Shelf.state c.read_next.new.shelf in
     only_reads_then (g.S.Shelf.state c.args.shelf.now) mid now c.loop-i.invariant.reads

@@ -214,3 +214,9 @@ if_less a n x lt = ap (λ b. if b then x else 0) (lt-ltb a n lt)
 
 pub if_not_less : (a n x : ℕ) → n ≤ a → (if nat_lt a n then x else 0) ≡ 0
 if_not_less a n x le = ap (λ b. if b then x else 0) (le-ltb a n le)
+
+pub two_fit : (a b : ℕ) → a ≤ 2 ^ 37 → b ≤ 2 ^ 37 → Fits w64 (a + b)
+two_fit a b la lb = omega arith
+
+pub three_fit : (a b c : ℕ) → a ≤ 2 ^ 37 → b ≤ 2 ^ 37 → c ≤ 2 ^ 37 → Fits w64 (a + b + c)
+three_fit a b c la lb lc = omega arith

@@ -7,19 +7,8 @@ ghost use Rattle.boxes.specs.Walks.{IsWalkIn};
 use crate::{Counts, Walk};
 use cells::{Axis, Size};
 
-// How many pairs along X the cells before a cell are the first of.
-fn pairs_along_x(size: Size, at: Counts) -> u64
-    requires small { IsSmall size }
-    requires counts { AreCounts size at.x at.y at.f }
-    ensures is { result ≡ (size.w - 1) * (at.y + size.h * at.f) + at.x }
-    ensures few { result ≤ 2 ^ 37 }
-{
-    let w = u64::from(size.w);
-    let h = u64::from(size.h);
-    (w - 1) * (u64::from(at.y) + h * u64::from(at.f)) + u64::from(at.x)
-}
-
-// The same along Y: each row but a frame's last has one for each column.
+// How many pairs along Y the cells before a cell are the first of: each row but a frame's last has one for
+// each column.
 fn pairs_along_y(size: Size, at: Counts) -> u64
     requires small { IsSmall size }
     requires counts { AreCounts size at.x at.y at.f }
@@ -58,7 +47,10 @@ impl Counts {
         ensures before { result ≡ pairs_before size (raster_index size self.x self.y self.f) }
         ensures few { result ≤ 2 ^ 39 }
     {
-        pairs_along_x(size, self) + pairs_along_y(size, self) + pairs_along_f(size, self)
+        // Each row has one pair fewer along X than it has cells.
+        let rows = u64::from(self.y) + u64::from(size.h) * u64::from(self.f);
+        let along_x = (u64::from(size.w) - 1) * rows + u64::from(self.x);
+        along_x + pairs_along_y(size, self) + pairs_along_f(size, self)
     }
 
     /// At this cell, with no walk to it.

@@ -16,7 +16,7 @@ use Rattle.map_canvas.proofs.EmptyAndFull.{map_at-empty}
 use Rattle.job_words.specs.declared.tile.Wrap.{Wrap}
 use Rattle.torus.specs.Filling.{IsFilledTo, IsNamedAt}
 use Rattle.boxes.specs.Pairs.{one_if}
-use Rattle.torus.specs.Tiles.{AxisTakes, IsSmallMap, Takes, has_before, output_cell, small_size}
+use Rattle.torus.specs.Tiles.{AxisTakes, IsSmallMap, Takes, has_before, output_cell, small_axis, small_size}
 use Rattle.torus.specs.Wraps.{around_axis}
 
 pub index_is : (m : SourceMap) (i : ℕ) → IsMap m → i < cell_count m.size → index_in m.size (place_of m.size i) ≡ Some i
@@ -87,6 +87,26 @@ fill_all m wrap rect small n le filled = record {
 pub takes_near : (wrapped : Bool) (n : ℕ) (corner : ℤ) (len : ℕ) → AxisTakes wrapped n corner len → n ≤ 4096 → (pos 0 ≤ℤ corner) × (corner ≤ℤ pos 4096) × (len ≤ 4096)
 takes_near true n corner len takes le = (takes.0, omega (arith, ints, takes.1), omega (arith, takes.2))
 takes_near false n corner len takes le = (takes.0, omega (arith, ints, takes.1), omega (arith, ints, takes.0, takes.1))
+
+-- what is asked of an axis of the small canvas, and its size
+pub axis_near : (wrapped : Bool) (n : ℕ) (corner : ℤ) (len : ℕ) → AxisTakes wrapped n corner len → n ≤ 4096 → (pos 0 ≤ℤ to_z w32 (of_z w32 corner)) × (to_z w32 (of_z w32 corner) ≤ℤ pos 4096) × (len ≤ 4096)
+axis_near wrapped n corner len takes le =
+    let near = takes_near wrapped n corner len takes le in
+    rw (near_back corner near.0 (omega (arith, ints, near.1))) near
+
+axis_is : (wrapped : Bool) (n : ℕ) (corner : ℤ) (len s : ℕ) → AxisTakes wrapped n corner len → n ≤ 4096 → s ≡ small_axis wrapped n (to_z w32 (of_z w32 corner)) len → s ≡ small_axis wrapped n corner len
+axis_is wrapped n corner len s takes le is =
+    let near = takes_near wrapped n corner len takes le in
+    is ∙ ap (λ z. small_axis wrapped n z len) (near_back corner near.0 (omega (arith, ints, near.1)))
+
+pub small_size_is : (m : SourceMap) (wrap : Wrap) (rect : Box3) (w h f : ℕ) → IsMap m → Takes wrap m.size rect
+    → w ≡ small_axis wrap.x m.size.w (to_z w32 (of_z w32 rect.corner.x)) rect.size.w → h ≡ small_axis wrap.y m.size.h (to_z w32 (of_z w32 rect.corner.y)) rect.size.h
+    → f ≡ small_axis wrap.f m.size.f (to_z w32 (of_z w32 rect.corner.f)) rect.size.f → record { w = w; h = h; f = f } ≡ small_size wrap m.size rect
+small_size_is m wrap rect w h f is takes ew eh ef = λ k. record {
+  w = axis_is wrap.x m.size.w rect.corner.x rect.size.w w takes.x is.small.axes.w.1 ew k;
+  h = axis_is wrap.y m.size.h rect.corner.y rect.size.h h takes.y is.small.axes.h.1 eh k;
+  f = axis_is wrap.f m.size.f rect.corner.f rect.size.f f takes.f is.small.axes.f.1 ef k;
+}
 
 -- coordinates that are near come back from 32 bits as they are
 near_too : (corner z : ℤ) (n : ℕ) → pos 0 ≤ℤ corner → corner ≤ℤ pos 4096 → pos 0 ≤ℤ z → z <ℤ pos 4096 → n ≤ 4096

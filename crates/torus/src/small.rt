@@ -36,23 +36,6 @@ fn small_axis(wrapped: bool, n: u32, corner: i32, len: u32) -> u32
     before(wrapped, corner) + (len + after)
 }
 
-// The size of the small canvas.
-fn size_of(whole: Size, wrap: &Wrap, rect: &Box3) -> Size
-    requires x { (pos 0 ≤ℤ rect.now.corner.x) × (rect.now.corner.x ≤ℤ pos GREATEST_AXIS)
-        × (rect.now.size.w ≤ GREATEST_AXIS) }
-    requires y { (pos 0 ≤ℤ rect.now.corner.y) × (rect.now.corner.y ≤ℤ pos GREATEST_AXIS)
-        × (rect.now.size.h ≤ GREATEST_AXIS) }
-    requires f { (pos 0 ≤ℤ rect.now.corner.f) × (rect.now.corner.f ≤ℤ pos GREATEST_AXIS)
-        × (rect.now.size.f ≤ GREATEST_AXIS) }
-    ensures { result ≡ small_size wrap.now whole rect.now }
-{
-    Size {
-        w: small_axis(wrap.x, whole.w, rect.corner.x, rect.size.w),
-        h: small_axis(wrap.y, whole.h, rect.corner.y, rect.size.h),
-        f: small_axis(wrap.f, whole.f, rect.corner.f, rect.size.f),
-    }
-}
-
 /// Where a box of the output lies in its small canvas.
 pub fn small_box(wrap: &Wrap, rect: &Box3) -> Box3
     ensures { result ≡ small_box wrap.now rect.now }
@@ -138,7 +121,12 @@ pub fn small_canvas(
     ensures stands { IfOk result (λ small. StandsOver small sample.now) }
     ensures canvas { IfOk result IsCanvas }
 {
-    let size = size_of(canvas.map().size(), wrap, rect);
+    let whole = canvas.map().size();
+    let size = Size {
+        w: small_axis(wrap.x, whole.w, rect.corner.x, rect.size.w),
+        h: small_axis(wrap.y, whole.h, rect.corner.y, rect.size.h),
+        f: small_axis(wrap.f, whole.f, rect.corner.f, rect.size.f),
+    };
     let mut small = Canvas::empty(alloc, size, sample.samples())?;
     for i in 0..size.cells() {
         fill_at(&mut small, canvas, sample, wrap, rect, i);

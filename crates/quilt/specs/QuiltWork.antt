@@ -41,11 +41,6 @@ QuiltAdvances rating asked sample was now (Ok false) =
     IsQuiltWork rating asked sample now × IsFull now.canvas.map
 QuiltAdvances rating asked sample was now (Err error) = Unit {0}
 
--- all steps
-abbrev pub LaysQuilt : Rating → QuiltRun → Cells → Result QuiltWork AllocError → Type 0
-LaysQuilt rating asked sample (Ok now) = IsQuiltWork rating asked sample now × IsFull now.canvas.map
-LaysQuilt rating asked sample (Err error) = Unit {0}
-
 -- whether a run stays within the bound on the cells of its boxes
 abbrev pub IsWithinOrPast : QuiltRun → Cells → Result (Unit {0}) QuiltError → Type 0
 IsWithinOrPast asked sample (Ok done) = PlanStaysWithin asked.plan asked.size sample.size

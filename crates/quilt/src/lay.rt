@@ -3,7 +3,7 @@ ghost use Rattle.std.specs.Prelude.{◌≡◌, ◌≤◌, IfOk, Some};
 ghost use Rattle.map_canvas.specs.Canvases.{StandsOver};
 ghost use Rattle.map_canvas.specs.Choices.{Fits};
 ghost use Rattle.block_strips.specs.Blocks.{next_box};
-ghost use Rattle.block_strips.specs.Laid.{IsLaidByBlocks, SharesStrips};
+ghost use Rattle.block_strips.specs.Laid.{IsLaidByBlocks};
 ghost use Rattle.block_strips.specs.Strips.{most_cols, strip_of};
 ghost use Rattle.block_check.specs.Blocks.{IsFormedBlock};
 ghost use Rattle.block_check.specs.Records.{BlockStands};
@@ -40,32 +40,6 @@ fn join(
     Ok(Some(boundary))
 }
 
-// The record of a placement, with a boundary through each of its strips.
-fn lay_sides(
-    alloc: Global,
-    plan: &QuiltPlan,
-    canvas: &Canvas,
-    sample: &Volume,
-    placement: &Placement,
-) -> Result<BlockRecord, AllocError>
-    requires pictures { HaveOneFrame canvas.now sample.now }
-    requires fits { Fits canvas.now.map.size sample.now placement.now }
-    requires strips { SharesStrips plan.now sample.now canvas.now.map placement.now.rect }
-    ensures { IfOk result (IsLaidBlock plan.now canvas.now.map sample.now placement.now) }
-{
-    let output = canvas.map().size();
-    let part = sample.size();
-    let left_cols = Side::Left.shared(plan, output, part, &placement.rect);
-    let top_cols = Side::Top.shared(plan, output, part, &placement.rect);
-    let left = join(alloc, canvas, sample, placement, Side::Left, left_cols)?;
-    let top = join(alloc, canvas, sample, placement, Side::Top, top_cols)?;
-    Ok(BlockRecord {
-        placement: *placement,
-        left,
-        top,
-    })
-}
-
 /// The record of the next block of a plan, laid from a place of the sample: through each of its strips the
 /// least boundary that `least_boundary` gives. The placement is one of the box that `block_rect` gives. The one
 /// error is out of memory.
@@ -86,5 +60,15 @@ pub fn lay_block(
     ensures stands { IfOk result (BlockStands canvas.now.map sample.now) }
 {
     next_block_shares_strips(plan, canvas, sample, &placement.rect);
-    lay_sides(alloc, plan, canvas, sample, placement)
+    let output = canvas.map().size();
+    let part = sample.size();
+    let left_cols = Side::Left.shared(plan, output, part, &placement.rect);
+    let top_cols = Side::Top.shared(plan, output, part, &placement.rect);
+    let left = join(alloc, canvas, sample, placement, Side::Left, left_cols)?;
+    let top = join(alloc, canvas, sample, placement, Side::Top, top_cols)?;
+    Ok(BlockRecord {
+        placement: *placement,
+        left,
+        top,
+    })
 }

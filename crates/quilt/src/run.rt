@@ -3,35 +3,18 @@ ghost use Rattle.std.specs.Prelude.{IfOk};
 ghost use Rattle.quilted.specs.Runs.{by_overlap};
 ghost use Rattle.quilted.specs.PlanLimit.{PlanStaysWithin};
 ghost use Rattle.quilted.specs.Quilted.{CanBeQuilted, IsQuilt, Quilts};
-ghost use Rattle.quilt.specs.QuiltWork.{IsWithinOrPast, LaysQuilt};
+ghost use Rattle.quilt.specs.QuiltWork.{IsWithinOrPast};
 
 use crate::BlockPicks;
-use crate::work::{QuiltWork, begin, step};
+use crate::work::{QuiltWork, step};
+use block_strips::empty_map_is_laid;
 use cells::Volume;
 use items::Items;
+use map_canvas::Canvas;
+use patch_picks::Draws;
 use quilted::{QuiltError, QuiltRun, Quilted, first_past};
 use search_squares::SampleSums;
 use std::alloc::{AllocError, Global};
-
-// Lays blocks until the canvas is full.
-fn lay_all<P: BlockPicks>(
-    alloc: Global,
-    asked: &QuiltRun,
-    sample: &Volume,
-    picks: &P,
-) -> Result<QuiltWork, AllocError>
-    requires can { CanBeQuilted asked.now sample.now }
-    requires within { PlanStaysWithin asked.now.plan asked.now.size sample.now.size }
-    requires ready { P.AreReady picks.now asked.now.size sample.now }
-    ensures { LaysQuilt (P.rating picks.now sample.now) asked.now sample.now result }
-{
-    let mut work = begin(alloc, asked, sample)?;
-    let mut more = true;
-    'laying: while more {
-        more = step(alloc, asked, sample, picks, &mut work)?;
-    }
-    Ok(work)
-}
 
 // Refuses a run whose boxes have too many cells, before a place is picked.
 fn keep_within(asked: &QuiltRun, sample: &Volume) -> Result<(), QuiltError>
@@ -44,7 +27,7 @@ fn keep_within(asked: &QuiltRun, sample: &Volume) -> Result<(), QuiltError>
     }
 }
 
-// The whole run, of a plan that stays within the bound.
+// The whole run, of a plan that stays within the bound: blocks from the empty canvas to a full one.
 fn quilt_within<P: BlockPicks>(
     alloc: Global,
     asked: &QuiltRun,
@@ -56,9 +39,20 @@ fn quilt_within<P: BlockPicks>(
     requires ready { P.AreReady picks.now asked.now.size sample.now }
     ensures { IfOk result (IsQuilt (P.rating picks.now sample.now) asked.now sample.now) }
 {
-    let work = lay_all(alloc, asked, sample, picks)?;
-    // Called for its contract only: it shows the prover that the sample is a volume.
-    let _samples = sample.samples();
+    empty_map_is_laid();
+    let samples = sample.samples();
+    let canvas = Canvas::empty(alloc, asked.size, samples)?;
+    let mut work = QuiltWork {
+        canvas,
+        draws: Draws::from_seed(asked.seed),
+        blocks: Vec::new(alloc),
+        boundaries: 0,
+        cost: 0,
+    };
+    let mut more = true;
+    'laying: while more {
+        more = step(alloc, asked, sample, picks, &mut work)?;
+    }
     Ok(Quilted {
         canvas: work.canvas,
         blocks: Items::from_vec(work.blocks),

@@ -1,13 +1,10 @@
 // A run, step by step.
-ghost use Rattle.std.specs.Prelude.{IfOk};
-ghost use Rattle.quilted.specs.Runs.{Rating};
 ghost use Rattle.quilted.specs.PlanLimit.{PlanStaysWithin};
 ghost use Rattle.quilted.specs.Quilted.{CanBeQuilted};
 ghost use Rattle.quilt.specs.QuiltWork.{QuiltAdvances, IsQuiltWork};
 
 use crate::{BlockPicks, next_block_by};
 use block_check::BlockRecord;
-use block_strips::empty_map_is_laid;
 use cells::Volume;
 use map_canvas::Canvas;
 use patch_picks::Draws;
@@ -22,27 +19,6 @@ pub(crate) struct QuiltWork {
     pub(crate) blocks: Vec<BlockRecord>,
     pub(crate) boundaries: u64,
     pub(crate) cost: u64,
-}
-
-/// With no cell filled.
-pub(crate) fn begin(
-    alloc: Global,
-    asked: &QuiltRun,
-    sample: &Volume,
-) -> Result<QuiltWork, AllocError>
-    requires { CanBeQuilted asked.now sample.now }
-    ensures { IfOk result (λ work. (rating : Rating)
-        → IsQuiltWork rating asked.now sample.now work) }
-{
-    empty_map_is_laid();
-    let canvas = Canvas::empty(alloc, asked.size, sample.samples())?;
-    Ok(QuiltWork {
-        canvas,
-        draws: Draws::from_seed(asked.seed),
-        blocks: Vec::new(alloc),
-        boundaries: 0,
-        cost: 0,
-    })
 }
 
 /// Lays the next block; false where the canvas is full.

@@ -1,5 +1,7 @@
-use Rattle.std.proofs.Common.{◌≡◌, ◌≤◌, sym, subst}
+use Rattle.std.proofs.Common.{◌≡◌, ◌≤◌, ◌∙◌, ap, refl, sym, subst}
+use Rattle.std.proofs.lemmas.Bool.{false≢true}
 use Rattle.std.specs.Prelude.{All}
+use Rattle.map_canvas.specs.Canvases.{empty_canvas}
 use Rattle.map_canvas.specs.Maps.{empty_map}
 use Rattle.quilted.specs.Runs.{QuiltsTo, first_quilting, quilting}
 use Rattle.quilted.proofs.Runs.{quilts_replay}
@@ -7,23 +9,33 @@ use Rattle.limits.specs.declared.bounds.TheConstants.{MOST_BOX_CELLS}
 use Rattle.quilted.specs.Costs.{IsFileBlock, all_boundaries, quilt_cost}
 use Rattle.block_check.specs.Blocks.{block_cells}
 use Rattle.quilt.specs.QuiltWork.{IsQuiltWork}
+use Rattle.quilt.proofs.Stepping.{none_made}
 use Rattle.quilt.proofs.run.quilt_within.Goals as goal
+
+pub laying-init : goal.laying-init
+laying-init g c = record {
+  work = none_made (g.P.BlockPicks.rating c.args.picks.now c.args.sample.now) c.args.asked.now c.args.sample.now _ c.requires.can c.in_ok-canvas.ensures.canvas
+      (c.in_ok-canvas.ensures.stands c.args.sample.now (sym c.samples-samples.ensures.samples))
+      (c.in_ok-canvas.ensures.empty ∙ ap (empty_canvas c.args.asked.now.size) c.samples-samples.ensures.samples)
+      (c.empty_map_is_laid.ensures c.args.asked.now.plan c.args.sample.now c.args.asked.now.size)
+      c.from_seed.ensures c.new.ensures.items refl refl;
+  full = λ e. absurd (false≢true (sym e));
+}
 
 pub returns : goal.returns
 returns g c =
     let rating = g.P.BlockPicks.rating c.args.picks.now c.args.sample.now in
     let asked = c.args.asked.now in
     let sample = c.args.sample.now in
-    let end = c.in_ok-work.work in
-    let made = c.in_ok-work.ensures in
-    let work : IsQuiltWork rating asked sample end = made.0 in
+    let end = c.laying.work in
+    let work : IsQuiltWork rating asked sample end = c.laying.invariant.work in
     let items = sym c.from_vec.ensures in
     let blocks = c.from_vec.result in
     let after = quilting end.canvas.map end.draws in
     let steps = subst (λ blocks. QuiltsTo rating asked.plan sample (first_quilting asked.size asked.seed) blocks after) items work.steps in
     record {
       draws = end.draws;
-      run = record { run = steps; full = made.1 };
+      run = record { run = steps; full = c.laying.invariant.full c.laying-test.false };
       size = work.size;
       replays = quilts_replay asked.plan sample c.samples-samples.ensures.volume c.requires.can.block asked.size c.requires.can.small c.requires.can.frame rating asked.seed blocks after steps;
       canvas = work.canvas;

@@ -1,10 +1,10 @@
 // Steps of a transfer, and the whole of it.
-ghost use Rattle.std.specs.Prelude.{◌≡◌, ◌≤◌, IfErr, IfOk, IfSome, OnErr};
+ghost use Rattle.std.specs.Prelude.{◌≡◌, ◌≤◌, IfOk, IfSome, OnErr};
 ghost use Rattle.limits.specs.declared.bounds.TheConstants.{GREATEST_ALPHA};
 ghost use Rattle.block_check.specs.Records.{BlockStands};
 ghost use Rattle.block_strips.specs.Laid.{IsLaidByBlocks};
 ghost use Rattle.quilted.specs.Runs.{HaveOneFrame, LaysNext, quilting};
-ghost use Rattle.quilted.specs.Quilted.{CanBeQuilted, IsQuiltFault, Quilts};
+ghost use Rattle.quilted.specs.Quilted.{CanBeQuilted, Quilts};
 ghost use Rattle.transfer.specs.Search.{ServesTransfer};
 ghost use Rattle.targets.specs.Targets.{IsTargetOf, by_target};
 
@@ -83,17 +83,6 @@ pub fn next_transfer_with(
     next_block_by(alloc, &plan.quilt, canvas, sample, &picks, draws)
 }
 
-// Refuses a run whose boxes have too many cells, before anything is made that its picks go by.
-fn keep_within(asked: &QuiltRun, sample: &Volume) -> Result<(), QuiltError>
-    requires { CanBeQuilted asked.now sample.now }
-    ensures { IfErr result (IsQuiltFault asked.now sample.now) }
-{
-    match first_past(&asked.plan, asked.size, sample.size()) {
-        Some(number) => Err(QuiltError::Records(number)),
-        None => Ok(()),
-    }
-}
-
 /// A whole transfer: blocks until the output, of the target's size, is full, with a record of each. Its draws are
 /// those of the seed, from number 0 on. The limit comes first: a run that passes it makes nothing. The method is
 /// that of Efros and Freeman, "Image quilting" (2001), in one pass.
@@ -109,7 +98,10 @@ pub fn transfer_canvas(
     requires target { IsTargetOf asked.now.size sample.now target.now }
     ensures { Quilts (by_target alpha target.now sample.now) asked.now sample.now result }
 {
-    keep_within(asked, sample)?;
+    // The limit comes before anything is made that the picks go by.
+    if let Some(number) = first_past(&asked.plan, asked.size, sample.size()) {
+        return Err(QuiltError::Records(number));
+    }
     // Called for their contracts only: they show the prover that these are volumes.
     let _sample = sample.samples();
     let _target = target.samples();

@@ -2,20 +2,12 @@
 ghost use Rattle.std.specs.Prelude.{◌≡◌, ◌≤◌, ◌<◌, ◌+◌, ◌-◌, ◌*◌, Some, length};
 ghost use Rattle.cells.specs.Cells.{HasCell};
 ghost use Rattle.map_canvas.specs.Maps.{IsOver, map_at, sample_cell};
-ghost use Rattle.offset_errors.specs.Numbers.{new_number, old_number, source_number, squares};
+ghost use Rattle.offset_errors.specs.Numbers.{new_number, source_number, squares};
 
 use cells::{At, Volume};
 use cyclic_products::PRIME;
 use limits::MOST_CHANNELS;
 use map_canvas::Map;
-
-// The square of a byte.
-fn square(byte: u8) -> u64
-    ensures square { result ≡ byte * byte }
-    ensures most { result ≤ 255 * 255 }
-{
-    u64::from(byte) * u64::from(byte)
-}
 
 // The squares of the bytes of a cell.
 fn squares_of(cell: &[u8]) -> u64
@@ -24,23 +16,10 @@ fn squares_of(cell: &[u8]) -> u64
 {
     let mut sum = 0;
     'bytes: for i in 0..cell.len() {
-        sum += square(cell[i]);
+        let byte = u64::from(cell[i]);
+        sum += byte * byte;
     }
     sum
-}
-
-// Number j of a filled cell of the output.
-fn old_entry(cell: &[u8], j: u32) -> u64
-    requires few { length cell.now ≤ MOST_CHANNELS }
-    requires below { j < length cell.now + 2 }
-    ensures { result ≡ old_number cell.now j }
-{
-    match j {
-        0 => squares_of(cell),
-        1 => 1,
-        // takes the product with the byte off twice, modulo the prime
-        _ => PRIME - 2 * u64::from(cell[j as usize - 2]),
-    }
 }
 
 // The bytes of a place that has a cell.
@@ -61,9 +40,15 @@ pub(crate) fn output_entry(map: &Map, sample: &Volume, p: At, j: u32) -> u64
     requires below { j < sample.now.k + 2 }
     ensures { result ≡ source_number sample.now j (map_at map.now p) }
 {
-    match map.at(p) {
-        Some(from) => old_entry(cell_of(sample, from), j),
-        None => 0,
+    let Some(from) = map.at(p) else {
+        return 0;
+    };
+    let cell = cell_of(sample, from);
+    match j {
+        0 => squares_of(cell),
+        1 => 1,
+        // takes the product with the byte off twice, modulo the prime
+        _ => PRIME - 2 * u64::from(cell[j as usize - 2]),
     }
 }
 

@@ -1,8 +1,8 @@
 // How a box of the output and a part of the sample are laid out in lists of one length.
 ghost use Rattle.std.specs.Prelude.{◌≡◌, ◌≤◌, ◌+◌, ◌*◌, IfSome};
 ghost use Rattle.cells.specs.Places.{HasAxes, raster_index};
-ghost use Rattle.offset_errors.specs.Errors.{IsEnough, IsPadded};
-ghost use Rattle.offset_errors.specs.Padded.{HoldsBoth, HoldsOnAxis};
+ghost use Rattle.offset_errors.specs.Errors.{IsEnough};
+ghost use Rattle.offset_errors.specs.Padded.{HoldsOnAxis};
 
 use cells::Size;
 use cyclic_products::MOST_LEVELS;
@@ -48,35 +48,6 @@ fn padded_along(b: u32, lead: u32, s: u32, span: u32) -> u32
     b.max(lead + s - 1).max(apart)
 }
 
-// The lead on each axis.
-fn lead_for(rect: Size, lead: Size) -> Size
-    requires { HasAxes rect }
-    ensures axes { HasAxes result }
-    ensures within { (result.w ≤ rect.w) × (result.h ≤ rect.h) × (result.f ≤ rect.f) }
-{
-    Size {
-        w: lead_along(rect.w, lead.w),
-        h: lead_along(rect.h, lead.h),
-        f: lead_along(rect.f, lead.f),
-    }
-}
-
-// The padded size.
-fn padded(rect: Size, lead: Size, part: Size, span: Size) -> Size
-    requires rect { HasAxes rect }
-    requires part { HasAxes part }
-    requires lead { HasAxes lead }
-    requires within { (lead.w ≤ rect.w) × (lead.h ≤ rect.h) × (lead.f ≤ rect.f) }
-    ensures both { HoldsBoth result rect lead part }
-    ensures small { IsPadded result }
-{
-    Size {
-        w: padded_along(rect.w, lead.w, part.w, span.w),
-        h: padded_along(rect.h, lead.h, part.h, span.h),
-        f: padded_along(rect.f, lead.f, part.f, span.f),
-    }
-}
-
 impl Layout {
     /// The layout of a box and a part of these sizes. On each axis the part begins at the last of the first
     /// `lead` cells of the box, or less than `span` cells before; errors at other offsets needn't be known by
@@ -86,8 +57,16 @@ impl Layout {
         requires part { HasAxes part }
         ensures { IfSome result (IsEnough rect part) }
     {
-        let lead = lead_for(rect, lead);
-        let pad = padded(rect, lead, part, span);
+        let lead = Size {
+            w: lead_along(rect.w, lead.w),
+            h: lead_along(rect.h, lead.h),
+            f: lead_along(rect.f, lead.f),
+        };
+        let pad = Size {
+            w: padded_along(rect.w, lead.w, part.w, span.w),
+            h: padded_along(rect.h, lead.h, part.h, span.h),
+            f: padded_along(rect.f, lead.f, part.f, span.f),
+        };
         // as many as come before the first cell past the last frame
         let cells = index_at(pad, 0, 0, pad.f);
         'levels: for levels in 1..MOST_LEVELS + 1 {

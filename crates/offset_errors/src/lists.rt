@@ -7,25 +7,13 @@ ghost use Rattle.cells.specs.Places.{HasAxes, raster_index};
 ghost use Rattle.map_canvas.specs.Maps.{IsOver};
 ghost use Rattle.offset_errors.specs.Numbers.{box_number, part_number};
 ghost use Rattle.offset_errors.specs.Offsets.{IsInSample, box_list, part_list};
-ghost use Rattle.offset_errors.specs.Padded.{in_box, is_along, is_below, is_moved, moved};
+ghost use Rattle.offset_errors.specs.Padded.{in_box, is_along, is_moved, moved};
 
 use crate::entries::{output_entry, sample_entry};
 use boxes::Counts;
 use cells::{Box3, Size, Volume};
 use map_canvas::Map;
 use std::alloc::{AllocError, Global};
-
-// The counts at an index of a size.
-fn counts_at(size: Size, i: u32) -> Counts
-    requires { (1 ≤ size.w) × (1 ≤ size.h) }
-    ensures { IsAtIndex size i result.x result.y result.f }
-{
-    Counts {
-        x: i % size.w,
-        y: i / size.w % size.h,
-        f: i / size.w / size.h,
-    }
-}
 
 // The counts at the index before. A walk from the end needs no division for each index.
 fn before(size: Size, at: Counts) -> Counts
@@ -51,13 +39,6 @@ fn before(size: Size, at: Counts) -> Counts
     }
 }
 
-// Whether counts are of a cell of the box.
-fn is_in_box(size: Size, at: Counts) -> bool
-    ensures { result ≡ is_below size at.x at.y at.f }
-{
-    at.x < size.w && (at.y < size.h && at.f < size.f)
-}
-
 // What the list of a box has at counts.
 fn box_entry(map: &Map, sample: &Volume, rect: &Box3, j: u32, at: Counts) -> u64
     requires over { IsOver map.now sample.now }
@@ -66,7 +47,8 @@ fn box_entry(map: &Map, sample: &Volume, rect: &Box3, j: u32, at: Counts) -> u64
     ensures { result ≡
         in_box rect.now.size (box_number map.now sample.now rect.now j) at.x at.y at.f }
 {
-    if is_in_box(rect.size, at) {
+    let size = rect.size;
+    if at.x < size.w && (at.y < size.h && at.f < size.f) {
         output_entry(map, sample, at.cell(rect), j)
     } else {
         0
@@ -91,7 +73,12 @@ pub(crate) fn box_values(
         reverse (box_list n pad map.now sample.now rect.now j)) }
 {
     let mut values = Vec::with_capacity(alloc, n as usize)?;
-    let mut at = counts_at(pad, n);
+    // those at index n, past the last one
+    let mut at = Counts {
+        x: n % pad.w,
+        y: n / pad.w % pad.h,
+        f: n / pad.w / pad.h,
+    };
     'cells: for i in 0..n {
         at = before(pad, at);
         values.push(box_entry(map, sample, rect, j, at))?;

@@ -45,20 +45,15 @@ pub(crate) fn half(x: u64) -> u64
     if x % 2 == 0 { x / 2 } else { x / 2 + HALF }
 }
 
-// Any number. As 2^64 is 2^32 - 1 modulo the prime, and 2^96 is -1, the parts of its upper half count so.
-fn folded(x: u128) -> u64
-    ensures { result % PRIME ≡ x % PRIME }
-{
-    let low = (x % (1 << 64)) as u64;
-    let high = (x / (1 << 64)) as u64;
-    let middle = high % (1 << 32);
-    let top = high / (1 << 32);
-    plus(minus(low, top), middle * CARRY)
-}
-
-// The product of two numbers.
+// The product of two numbers. As 2^64 is 2^32 - 1 modulo the prime, and 2^96 is -1, the parts of its upper half
+// count so.
 pub(crate) fn times(x: u64, y: u64) -> u64
     ensures { result % PRIME ≡ (x * y) % PRIME }
 {
-    folded(u128::from(x) * u128::from(y))
+    let product = u128::from(x) * u128::from(y);
+    let low = (product % (1 << 64)) as u64;
+    let high = (product / (1 << 64)) as u64;
+    let middle = high % (1 << 32);
+    let top = high / (1 << 32);
+    plus(minus(low, top), middle * CARRY)
 }

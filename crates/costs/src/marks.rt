@@ -58,25 +58,6 @@ fn is_filled_at(canvas: &Canvas, rect: &Box3, at: Counts) -> bool
     }
 }
 
-// Whether there is a mark for each cell of a placement's box, and each marked cell is filled.
-fn are_all_marks(canvas: &Canvas, placement: &Placement, held: &[bool]) -> bool
-    requires { HasCells placement.now.rect.size }
-    ensures { IsTrue result ↔ AreMarks canvas.now.map placement.now held.now }
-{
-    let size = placement.rect.size;
-    if !has_count(size, held.len()) {
-        return false;
-    }
-    let mut at = Counts::first();
-    for i in 0..held.len() {
-        if held[i] && !is_filled_at(canvas, &placement.rect, at) {
-            return false;
-        }
-        at = at.next(size);
-    }
-    true
-}
-
 /// Whether there is a mark for each cell of a placement's box, in raster order, and each marked cell is
 /// filled; true where there are no marks. Calls that hold cells ask for such marks. It takes no memory.
 pub fn are_marks(canvas: &Canvas, placement: &Placement, held: Option<&[bool]>) -> bool
@@ -84,8 +65,19 @@ pub fn are_marks(canvas: &Canvas, placement: &Placement, held: Option<&[bool]>) 
     ensures { IsTrue result ↔ IfSome (option_copied held.entry)
         (AreMarks canvas.now.map placement.now) }
 {
-    match held {
-        Some(held) => are_all_marks(canvas, placement, held),
-        None => true,
+    let Some(marks) = held else {
+        return true;
+    };
+    let size = placement.rect.size;
+    if !has_count(size, marks.len()) {
+        return false;
     }
+    let mut at = Counts::first();
+    for i in 0..marks.len() {
+        if marks[i] && !is_filled_at(canvas, &placement.rect, at) {
+            return false;
+        }
+        at = at.next(size);
+    }
+    true
 }

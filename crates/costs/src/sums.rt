@@ -7,7 +7,7 @@ ghost use Rattle.cells.specs.Places.{plus};
 ghost use Rattle.map_canvas.specs.Maps.{IsSource, map_at};
 ghost use Rattle.boxes.specs.Pairs.{AreCounts};
 ghost use Rattle.boxes.specs.Raster.{largest};
-ghost use Rattle.costs.specs.Costs.{most_of_cell, most_of_frame, most_of_row, pairs_at, pairs_of_box, pairs_of_frame, pairs_of_row, total_of, window_of};
+ghost use Rattle.costs.specs.Costs.{most_of_frame, most_of_row, pairs_of_box, pairs_of_frame, pairs_of_row, total_of, window_of};
 
 use crate::intersection::intersection;
 use crate::pairs::seam_of;
@@ -29,34 +29,6 @@ fn next_source<S: Sources>(sources: &S, rect: &Box3, at: Counts, axis: Axis) -> 
     sources.source(next)
 }
 
-// The costs of a cell of source `a` and the next one along each axis, of which that along X has source
-// `next`.
-fn pairs<S: Sources>(
-    sources: &S,
-    sample: &Volume,
-    rect: &Box3,
-    at: Counts,
-    a: Option<At>,
-    next: Option<At>,
-) -> u32
-    requires inside { HoldsBox largest rect.now.corner rect.now.size }
-    requires counts { AreCounts rect.now.size at.x at.y at.f }
-    requires source { a ≡ S.source_at sources.now (cell_in rect.now at.x at.y at.f) }
-    requires near { IfSome a IsSource }
-    requires next { next ≡ S.source_at sources.now
-        (plus (cell_in rect.now at.x at.y at.f) (unit_step Axis.X)) }
-    requires next_near { IfSome next IsSource }
-    ensures cost { result ≡ pairs_at (distance sample.now) (S.source_at sources.now)
-        (cell_in rect.now at.x at.y at.f) }
-    ensures small { result ≤ most_of_cell }
-{
-    let below = next_source(sources, rect, at, Axis::Y);
-    let later = next_source(sources, rect, at, Axis::F);
-    seam_of(sample, Axis::X, a, next)
-        + seam_of(sample, Axis::Y, a, below)
-        + seam_of(sample, Axis::F, a, later)
-}
-
 // The costs of a row. Its cells are asked for one after another, each once.
 #[tactic(auto, using(crate::proofs::Near::cell_asked))]
 fn row<S: Sources>(sources: &S, sample: &Volume, rect: &Box3, y: u32, f: u32) -> u64
@@ -75,7 +47,12 @@ fn row<S: Sources>(sources: &S, sample: &Volume, rect: &Box3, y: u32, f: u32) ->
     for x in 0..rect.size.w {
         let at = Counts { x, y, f };
         let next = next_source(sources, rect, at, Axis::X);
-        sum += u64::from(pairs(sources, sample, rect, at, a, next));
+        let below = next_source(sources, rect, at, Axis::Y);
+        let later = next_source(sources, rect, at, Axis::F);
+        let costs = seam_of(sample, Axis::X, a, next)
+            + seam_of(sample, Axis::Y, a, below)
+            + seam_of(sample, Axis::F, a, later);
+        sum += u64::from(costs);
         a = next;
     }
     sum

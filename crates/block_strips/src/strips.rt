@@ -6,7 +6,7 @@ ghost use Rattle.lane_kernels.specs.Sums.{squared_difference, sum_of_squared_dif
 ghost use Rattle.map_canvas.specs.Maps.{sample_cell};
 ghost use Rattle.map_canvas.specs.Canvases.{StandsOver};
 ghost use Rattle.map_canvas.specs.Choices.{Fits};
-ghost use Rattle.map_canvas.specs.CellErrors.{cell_error, spot_error};
+ghost use Rattle.map_canvas.specs.CellErrors.{spot_error};
 ghost use Rattle.block_strips.specs.Strips.{most_cols, strip_error, strip_of, strip_rows};
 
 use crate::Side;
@@ -62,17 +62,6 @@ fn squares(a: &[u8], b: &[u8]) -> u32
     }
 }
 
-// The squared difference of two cells of a sample.
-fn squared_difference(sample: &Volume, old: At, new: At) -> u32
-    requires samples { sample.now.k ≡ 3 }
-    requires old { HasCell sample.now old }
-    requires new { HasCell sample.now new }
-    ensures error { result ≡ cell_error sample.now (Some old) new }
-    ensures small { result ≤ GREATEST_ERROR }
-{
-    squares(cell_of(sample, old), cell_of(sample, new))
-}
-
 // The squared difference of what is at a cell of a block, by its column and row, and what comes
 // there; 0 where nothing is there.
 #[inline(always)]
@@ -90,7 +79,8 @@ fn error_at(canvas: &Canvas, sample: &Volume, placement: &Placement, x: u32, y: 
     let Some(old) = map.at(place_from(placement.rect.corner, x, y)) else {
         return 0;
     };
-    squared_difference(sample, old, place_from(placement.from, x, y))
+    let new = place_from(placement.from, x, y);
+    squares(cell_of(sample, old), cell_of(sample, new))
 }
 
 // The error of a strip cell.

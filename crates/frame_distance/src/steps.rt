@@ -1,6 +1,6 @@
 // The costs of steps from frame to frame.
-ghost use Rattle.std.specs.Prelude.{◌≡◌, ◌≤◌, ◌<◌, ◌+◌, ◌-◌, ◌^◌, true, IfOk, IfSome};
-ghost use Rattle.frame_distance.specs.Steps.{AreSteps, AreStepsOf, has_terms, filter_sum, filtered_distance, step_cost, step_at, steps_of};
+ghost use Rattle.std.specs.Prelude.{◌≡◌, ◌≤◌, ◌<◌, ◌+◌, ◌-◌, ◌^◌, IfOk, IfSome};
+ghost use Rattle.frame_distance.specs.Steps.{AreSteps, AreStepsOf, has_terms, filtered_distance, step_cost, step_at, steps_of};
 
 use crate::table::Table;
 use cells::Taps;
@@ -61,27 +61,8 @@ fn has_terms(n: u32, taps: Taps, i: u32) -> bool
     }
 }
 
-// The filter over the distances of frames that are as far apart, with binomial weights.
-fn filter_sum(table: &Table, taps: Taps, i: u32, j: u32) -> u64
-    requires row { has_terms table.now.frames taps i ≡ true }
-    requires column { has_terms table.now.frames taps j ≡ true }
-    ensures sum { result ≡ filter_sum table.now taps i j }
-    ensures below { result < 2 ^ 46 }
-{
-    let _frames = table.frames();
-    match taps {
-        Taps::None0 => table.at(i, j),
-        Taps::Two => table.at(i - 1, j - 1) + table.at(i, j),
-        Taps::Four => {
-            table.at(i - 2, j - 2)
-                + 3 * table.at(i - 1, j - 1)
-                + 3 * table.at(i, j)
-                + table.at(i + 1, j + 1)
-        }
-    }
-}
-
-// The filtered distance of two frames; None where one of its terms isn't there.
+// The filtered distance of two frames: a sum over the distances of frames that are as far apart, with binomial
+// weights. None where one of its terms isn't there.
 fn filtered_distance(table: &Table, taps: Taps, i: u32, j: u32) -> Option<u64>
     requires row { i ≤ MOST_LOOP_FRAMES }
     requires column { j ≤ MOST_LOOP_FRAMES }
@@ -89,10 +70,18 @@ fn filtered_distance(table: &Table, taps: Taps, i: u32, j: u32) -> Option<u64>
     ensures below { IfSome result (λ number. number < 2 ^ 46) }
 {
     let n = table.frames();
-    if has_terms(n, taps, i) && has_terms(n, taps, j) {
-        Some(filter_sum(table, taps, i, j))
-    } else {
-        None
+    if !has_terms(n, taps, i) || !has_terms(n, taps, j) {
+        return None;
+    }
+    match taps {
+        Taps::None0 => Some(table.at(i, j)),
+        Taps::Two => Some(table.at(i - 1, j - 1) + table.at(i, j)),
+        Taps::Four => Some(
+            table.at(i - 2, j - 2)
+                + 3 * table.at(i - 1, j - 1)
+                + 3 * table.at(i, j)
+                + table.at(i + 1, j + 1),
+        ),
     }
 }
 

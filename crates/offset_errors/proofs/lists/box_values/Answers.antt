@@ -1,3 +1,4 @@
+use Rattle.std.proofs.lemmas.Grind.{common_steps}
 use Rattle.std.proofs.Common.{map, ℕ, ◌≡◌, ◌+◌, ◌-◌, ◌++◌, ◌∷◌, List, [], sym, ◌∙◌, subst, arith}
 use Rattle.std.specs.Prelude.{reverse}
 use Rattle.std.specs.List.{range_with_len}
@@ -46,3 +47,6 @@ box_entry-requires-clause-inside c = c.requires.inside
 
 pub before-at-requires-clause-size : goal.before-at-requires-clause-size
 before-at-requires-clause-size c = omega arith
+
+pub cells-init : goal.cells-init
+cells-init c = grind (arith, common_steps)

@@ -31,3 +31,18 @@ overflow_sub-own-3 c = omega arith
 
 pub overflow_sub-own : goal.overflow_sub-own
 overflow_sub-own c = omega arith
+
+pub overflow_sub-own-6 : goal.overflow_sub-own-6
+overflow_sub-own-6 c = grind (arith, common_steps)
+
+pub overflow_sub-own-4 : goal.overflow_sub-own-4
+overflow_sub-own-4 c = grind (arith, common_steps)
+
+pub place-requires : goal.place-requires
+place-requires c = grind (arith, common_steps)
+
+pub overflow_sub-own-2 : goal.overflow_sub-own-2
+overflow_sub-own-2 c = grind (arith, common_steps)
+
+pub sample_entry-requires-clause-cell : goal.sample_entry-requires-clause-cell
+sample_entry-requires-clause-cell c = grind (arith, common_steps)

@@ -89,3 +89,9 @@ offset_on-requires-clause-rect c = omega arith
 
 pub offset_on-requires-clause-part : goal.offset_on-requires-clause-part
 offset_on-requires-clause-part c = omega arith
+
+pub returns-in_err-a : goal.returns-in_err-a
+returns-in_err-a c = grind (arith, common_steps)
+
+pub get-requires : goal.get-requires
+get-requires c = grind (arith, common_steps)

@@ -16,7 +16,7 @@ use cells::{At, Box3, Size, Volume};
 use map_canvas::Placement;
 
 /// How an output is grown from its first unfilled cell on.
-#[derive(Clone, Copy, Debug, Drop)]
+#[derive(Clone, Copy, Drop)]
 pub enum Mode {
     /// Copies of part 1 of the sample in a grid.
     Grid {

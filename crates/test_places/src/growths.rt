@@ -4,7 +4,7 @@ ghost use Rattle.cells.specs.Places.{IsSmall};
 ghost use Rattle.patch_picks.specs.Fitting.{HasPatch};
 ghost use Rattle.cut_replay.specs.Replay.{IsFormed};
 
-use crate::expect::expect_done;
+use crate::expect::{expect_done, mode_word};
 use crate::rows::{greys, two_parts};
 use cells::{At, Box3, Size, Volume};
 use costs::total;
@@ -173,7 +173,7 @@ fn assert_one_cell(
         seed: 0,
     };
     let run = grown(alloc, &plan, sample)?;
-    assert!(rt; are_six_cells(&run, sample), "{mode:?}");
+    assert!(rt; are_six_cells(&run, sample), "{}", mode_word(&mode));
     Ok(())
 }
 

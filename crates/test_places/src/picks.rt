@@ -7,7 +7,7 @@ ghost use Rattle.patch_picks.specs.Fitting.{FitsAndCovers, HasPatch};
 ghost use Rattle.patch_picks.specs.Lists.{IsWithin};
 ghost use Rattle.patch_picks.specs.Picks.{AllFit, HasEntries, listed_on};
 
-use crate::expect::expect_done;
+use crate::expect::{expect_done, mode_word};
 use crate::rows::{greys, row_of};
 use crate::steps::{PATCH, step_at};
 use cells::{At, Box3, Size, Volume};
@@ -85,7 +85,11 @@ fn expect_listings(rt: &impl Abort, table: &[Listing], output: Size, sample: &Vo
         };
         assert!(rt; output.index_of(q).is_some());
         let list = mode.candidates(q, output, sample);
-        assert!(rt; are_listed(&list, output, sample, *expected), "{mode:?}");
+        assert!(rt;
+            are_listed(&list, output, sample, *expected),
+            "{}",
+            mode_word(mode)
+        );
     }
 }
 

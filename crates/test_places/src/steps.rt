@@ -3,7 +3,7 @@ ghost use Rattle.std.specs.Prelude.{IsTrue};
 ghost use Rattle.map_canvas.specs.Canvases.{StandsOver};
 ghost use Rattle.patch_picks.specs.Fitting.{HasPatch};
 
-use crate::expect::expect_done;
+use crate::expect::{expect_done, mode_word};
 use crate::rows::{assert_fits, greys, row_of, two_parts};
 use cells::{At, Box3, PartPlace, Size, Volume};
 use costs::total;
@@ -115,7 +115,7 @@ fn expect_step(
 {
     assert!(rt; has_patch(mode));
     let step = step_at(alloc, mode, canvas, sample, number)?;
-    assert!(rt; step == *expected, "{mode:?}");
+    assert!(rt; step == *expected, "{}", mode_word(mode));
     Ok(())
 }
 

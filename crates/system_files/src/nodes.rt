@@ -56,12 +56,14 @@ impl Known {
     /// The standard output, if it is a regular file. It takes all the memory that the files of a run
     /// need; the one error is out of memory.
     pub fn new(rt: &HostRuntime, alloc: Global) -> Result<Known, AllocError> {
+        let output = match fs::metadata(rt, OUTPUT) {
+            Ok(metadata) => node_of(&metadata),
+            Err(_) => None,
+        };
         let held = Vec::with_capacity(alloc, MOST_FILES)?;
         let mut nodes = Vec::with_capacity(alloc, MOST_FILES)?;
-        if let Ok(metadata) = fs::metadata(rt, OUTPUT)
-            && let Some(node) = node_of(&metadata)
-        {
-            nodes.push(node)?;
+        if let Some(node) = output {
+            nodes.push_reserved(node);
         }
         Ok(Known { nodes, held })
     }

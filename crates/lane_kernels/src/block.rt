@@ -24,18 +24,6 @@ fn differences<const N: usize>(a: &[u8], b: &[u8]) -> Simd<u8, N>
     Simd::<u8, N>::from_slice(a).abs_diff(Simd::<u8, N>::from_slice(b))
 }
 
-// The lanes that the mask keeps, and 0 in place of the others.
-#[inline(always)]
-fn kept<const N: usize>(lanes: Simd<u8, N>, mask: &[u8]) -> Simd<u8, N>
-    requires { N ≤ length mask.now }
-    ensures { result ≡ zip2 (λ lane m. if m == 0 then 0 else lane) lanes.entry (take N mask.now) }
-{
-    let zero = Simd::<u8, N>::splat(0);
-    Simd::<u8, N>::from_slice(mask)
-        .simd_eq(zero)
-        .select(zero, lanes)
-}
-
 // A block of bytes adds up to 8,160 at most, which a lane of 16 bits holds.
 #[inline(always)]
 fn lane_sum<const N: usize>(lanes: Simd<u8, N>) -> u32
@@ -87,5 +75,9 @@ pub(crate) fn ssd_masked_block<const N: usize>(a: &[u8], b: &[u8], mask: &[u8]) 
     ensures { result ≡ masked_sum_of_squared_differences (take N a.now) (take N b.now)
         (take N mask.now) }
 {
-    lane_square_sum(kept(differences::<N>(a, b), mask))
+    let zero = Simd::<u8, N>::splat(0);
+    let kept = Simd::<u8, N>::from_slice(mask)
+        .simd_eq(zero)
+        .select(zero, differences::<N>(a, b));
+    lane_square_sum(kept)
 }

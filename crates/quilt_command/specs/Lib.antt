@@ -1,2 +1,4 @@
 pub mod Quilts
 pub mod QuiltHeadlines
+pub mod Transfers
+pub mod TransferHeadlines

@@ -27,16 +27,16 @@ use Rattle.quilt_command.proofs.QuiltLaws.{quilt_has_one_answer, quilted_run}
 use Rattle.outputs.specs.TileHeadlines.{IsOneTiling, IsToldOfTiling, OneTile, TileHeadline}
 use Rattle.outputs.proofs.OneTiles.{one_tile}
 use Rattle.outputs.proofs.TileLaws.{tile_has_one_answer, tile_told}
-use Rattle.transfer_command.specs.TransferHeadlines.{HaveSamePictures, IsOneTransferReport, IsTransferredRun, OneTransfer, TransferHeadline, TransferReport}
-use Rattle.transfer_command.proofs.OneTransfers.{one_transfer, one_transfer_report}
-use Rattle.transfer_command.proofs.TransferLaws.{transfer_has_one_answer, transferred_run}
+use Rattle.quilt_command.specs.TransferHeadlines.{HaveSamePictures, IsOneTransferReport, IsTransferredRun, OneTransfer, TransferHeadline, TransferReport}
+use Rattle.quilt_command.proofs.OneTransfers.{one_transfer, one_transfer_report}
+use Rattle.quilt_command.proofs.TransferLaws.{transfer_has_one_answer, transferred_run}
 use Rattle.upgrade_command.specs.Upgraded.{UpgradeHeadline}
 use Rattle.upgrade_command.proofs.Headline.{finished}
 use Rattle.upgrade_command.proofs.Reading.{upgrade_has_one_answer}
 use Rattle.weave_engine.specs.Engine.{command_of}
 use Rattle.outputs.specs.GrowHeadlines.{GrowHeadline, GrowReport, HaveSameOutput, HaveSameSamples, IsGrownRun, IsOneReport, OneOutput}
 use Rattle.check_command.specs.CheckHeadlines.{CheckHeadline, HaveLeastRecords}
-use Rattle.trial_command.specs.TrialHeadlines.{TrialHeadline}
+use Rattle.grow_command.specs.TrialHeadlines.{TrialHeadline}
 use Rattle.standing_files.specs.declared.verdict.Verdict.TheVariants as verdict
 use Rattle.check_command.specs.Checks.{Stand, check_command, summary_of}
 use Rattle.check_command.proofs.Staged.{check_has_one_answer}
@@ -44,8 +44,8 @@ use Rattle.check_command.proofs.Checked.{broke, least_records, made_breaking, ma
 use Rattle.outputs.proofs.Growing.{small_output}
 use Rattle.outputs.proofs.GrowLaws.{grow_has_one_answer, grow_told, grown_run, output_fits}
 use Rattle.outputs.proofs.OneGrowths.{one_output, one_report}
-use Rattle.trial_command.specs.Trials.{IsTrialOf}
-use Rattle.trial_command.proofs.Trying.{one_trial, trial_has_one_answer, trial_unchanged}
+use Rattle.grow_command.specs.Trials.{IsTrialOf}
+use Rattle.grow_command.proofs.Trying.{one_trial, trial_has_one_answer, trial_unchanged}
 
 pub one_answer : (job : Job) → IsJob job → HasOneAnswer (command_of job)
 one_answer (Grow job) lawful = grow_has_one_answer job

@@ -7,9 +7,9 @@ use Rattle.merge_command.specs.MergeCommand.{merge_command}
 use Rattle.quilt_command.specs.Quilts.{quilt_command}
 use Rattle.upgrade_command.specs.Upgrades.{upgrade_command}
 use Rattle.outputs.specs.Growths.{grow_command}
-use Rattle.trial_command.specs.Trials.{trial_command}
+use Rattle.grow_command.specs.Trials.{trial_command}
 use Rattle.outputs.specs.Tilings.{tile_command}
-use Rattle.transfer_command.specs.Transfers.{transfer_command}
+use Rattle.quilt_command.specs.Transfers.{transfer_command}
 
 -- the command of a job
 abbrev pub command_of : Commands

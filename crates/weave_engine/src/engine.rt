@@ -8,24 +8,22 @@ ghost use Rattle.loop_command.specs.LoopHeadlines.{LoopHeadline, OneLoop};
 ghost use Rattle.merge_command.specs.MergeHeadlines.{MergeHeadline, MergeReport, OneMerge};
 ghost use Rattle.quilt_command.specs.QuiltHeadlines.{OneQuiltOutput, QuiltHeadline, QuiltReport};
 ghost use Rattle.outputs.specs.TileHeadlines.{OneTile, TileHeadline};
-ghost use Rattle.transfer_command.specs.TransferHeadlines.{OneTransfer, TransferHeadline, TransferReport};
-ghost use Rattle.trial_command.specs.TrialHeadlines.{TrialHeadline};
+ghost use Rattle.quilt_command.specs.TransferHeadlines.{OneTransfer, TransferHeadline, TransferReport};
+ghost use Rattle.grow_command.specs.TrialHeadlines.{TrialHeadline};
 ghost use Rattle.upgrade_command.specs.Upgraded.{UpgradeHeadline};
 ghost use Rattle.weave_engine.specs.Engine.{command_of};
 
 use check_command::check_files;
 use command::finish;
-use grow_command::grow;
+use grow_command::{grow, trial};
 use job_words::{Job, Words, read_job};
 use loop_command::loop_clip;
 use merge_command::merge_pictures;
-use quilt_command::quilt_picture;
+use quilt_command::{quilt_picture, transfer_picture};
 use shelf_traits::{Shelf, Sink};
 use std::alloc::Global;
 use synth_report::{Fault, Summary};
 use tile_command::tile;
-use transfer_command::transfer_picture;
-use trial_command::trial;
 use upgrade_command::upgrade;
 
 // Runs the command of a job.

@@ -1,5 +1,0 @@
-pub mod Naming
-pub mod Planning
-pub mod Matching
-pub mod TransferLaws
-pub mod OneTransfers

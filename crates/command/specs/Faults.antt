@@ -1,8 +1,6 @@
 -- The faults of files that weren't read. To be trusted: contracts cite these words. (Own.)
 use Rattle.std.specs.Prelude.{◌≡◌, ℕ, List, Result, Ok, Err}
 use Rattle.shelf_traits.specs.Files.{ShelfState, Changes, InFile, Rose, content_of}
-use Rattle.shelf_traits.specs.declared.fault.FormFault.{FormFault}
-use Rattle.shelf_traits.specs.declared.fault.What.{What}
 use Rattle.shelf_traits.specs.declared.fault.ReadError.{ReadError}
 use Rattle.shelf_traits.specs.declared.fault.ReadError.TheVariants as error
 use Rattle.synth_report.specs.declared.fault.FileOf.{FileOf}
@@ -15,13 +13,6 @@ fault_of_read part error.ReadFault = Read part
 fault_of_read part (error.Bad why) = Form part why
 fault_of_read part (error.Limit what number bound) = Limit what number bound
 fault_of_read part error.NoMemory = NoMemory
-
--- the fault is one of the form of a file of this part, or a limit
-abbrev pub IsFormFault : FileOf → Fault → Type 0
-IsFormFault part fault = (why : FormFault) × (fault ≡ Form part why)
-
-abbrev pub IsLimitFault : Fault → Type 0
-IsLimitFault fault = (what : What) × (number : ℕ) × (bound : ℕ) × (fault ≡ Limit what number bound)
 
 -- the reader of a file of this part refuses its bytes, for this fault
 abbrev pub ReaderRefuses : (List ℕ → ReadError → Type 0) → FileOf → List ℕ → Fault → Type 0

@@ -3,10 +3,9 @@
 use Rattle.std.specs.Prelude.{◌≡◌, ◌<◌, ℕ, ℤ, Bool, false, not, List, [], ◌∷◌, ◌++◌, length, slice_index, slice_index_or, if◌then◌else◌}
 use Rattle.cells.specs.declared.place.Axis.{Axis}
 use Rattle.cells.specs.declared.place.Axis.TheVariants.{X, Y, F}
-use Rattle.cells.specs.Places.{cell_count}
 use Rattle.map_canvas.specs.declared.canvas.Placement.{Placement}
 use Rattle.map_canvas.specs.Maps.{SourceMap}
-use Rattle.boxes.specs.Pairs.{at_index, has_next, pair_count}
+use Rattle.boxes.specs.Pairs.{at_index, has_next}
 use Rattle.max_flow.specs.declared.solver.Solved.{Solved}
 use Rattle.max_flow.specs.Flows.{is_in}
 use Rattle.max_flow.specs.Networks.{FlowNetwork}
@@ -39,11 +38,6 @@ flows_from m placement places flows x y f =
 abbrev pub flows_before : SourceMap → Placement → Places → List ℤ → ℕ → List Flow
 flows_before m placement places flows =
     joined (at_index placement.rect.size (flows_from m placement places flows))
-
--- a record has an entry for each cell of its box, and a flow for each pair
-pub record IsSizedRecord (cut : CutRecord) : Type 0 where
-  pub choice : length cut.choice ≡ cell_count cut.placement.rect.size
-  pub flows : length cut.flows ≡ pair_count cut.placement.rect.size
 
 -- a solution of the network gives the record
 pub record IsSolvedRecord (network : FlowNetwork) (m : SourceMap) (placement : Placement)

@@ -1,7 +1,8 @@
 -- The verdict on files whose records were judged as they were read.
-use Rattle.std.proofs.Common.{◌≡◌, ℕ, List, inl, inr, refl, sym, subst}
+use Rattle.std.proofs.Common.{◌≡◌, ◌∙◌, ◌∷◌, [], ℕ, List, inl, inr, refl, sym, subst}
 use Rattle.std.proofs.lemmas.Bool.{ne_eqb}
 use Rattle.cells.specs.declared.place.Size.{Size}
+use Rattle.cells.specs.Cells.{sizes_of}
 use Rattle.cells.specs.Firsts.{Each, IsFirstWithout}
 use Rattle.cells.specs.Places.{cell_count}
 use Rattle.map_canvas.specs.Maps.{SourceMap}
@@ -22,8 +23,8 @@ use Rattle.sample_files.specs.declared.several.Samples.{Samples}
 use Rattle.sample_files.specs.Samples.{AreSoundIn}
 use Rattle.standing_files.specs.declared.verdict.Verdict.{Verdict}
 use Rattle.standing_files.specs.declared.verdict.Verdict.TheVariants.{Stands, Fails}
-use Rattle.standing_files.specs.AsRead.{FindsInBlocks, FindsInCuts, FindsInRecords, IsCanvasSize, IsOfColours, JudgesLeft, LeavesEach, TriesTogether}
-use Rattle.standing_files.specs.Standing.{AreKindsOfOneRun, GoTogether, IsBrokenBlock, IsBrokenCut, IsLeftAt, IsVerdict, LeaveAt, LeaveMap, RecordsStand, TakesForm}
+use Rattle.standing_files.specs.AsRead.{FindsInBlocks, FindsInCuts, FindsInRecords, IsCanvasSize, IsOfColours, JudgesAfter, JudgesLeft, LeavesEach, TriesTogether}
+use Rattle.standing_files.specs.Standing.{AreKindsOfOneRun, GoTogether, IsBrokenBlock, IsBrokenCut, IsLeftAt, IsVerdict, LeaveAt, LeaveMap, RecordsStand, TakesForm, map_output}
 use Rattle.standing_files.proofs.Judging.{block_colours}
 
 -- Whether files go together doesn't depend on the records.
@@ -154,7 +155,21 @@ module _ (samples : Samples) (out : Sample) (size : Size) (left : SourceMap) (nu
   fails map_file (Blocks head none) (Walk top taps gap walk tables) before tries sized found = absurd found
   fails map_file (Walk head taps gap walk tables) record_file before tries sized found = absurd found
 
-pub failed : (samples : Samples) (out : Sample) (size : Size) (left : SourceMap) (map_file : MapFile) (none record_file : RecordFile) (before verdict : Verdict) → (verdict ≡ Stands → ⊥) → TriesTogether samples out map_file none before
-    → IsCanvasSize before map_file size → FindsInRecords samples.volume size before left none record_file verdict → IsVerdict samples out map_file record_file verdict
-failed samples out size left map_file none record_file before Stands not tries sized found = absurd (not refl)
-failed samples out size left map_file none record_file before (Fails number rule place) not tries sized found = fails samples out size left number rule place map_file none record_file before tries sized found
+-- what is concluded from what was found in the records
+pub after : (samples : Samples) (out : Sample) (size : Size) (left : SourceMap) (map_file : MapFile) (none record_file : RecordFile) (before found verdict : Verdict) → TriesTogether samples out map_file none before
+    → IsCanvasSize before map_file size → FindsInRecords samples.volume size before left none record_file found → JudgesAfter found samples.volume out.volume map_file left verdict → IsVerdict samples out map_file record_file verdict
+after samples out size left map_file none record_file before Stands verdict tries sized found is = concluded samples out size left verdict map_file none record_file before tries sized found is
+after samples out size left map_file none record_file before (Fails number rule place) verdict tries sized found is =
+    subst (λ v. IsVerdict samples out map_file record_file v) (sym is) (fails samples out size left number rule place map_file none record_file before tries sized found)
+
+-- records of files that don't go together aren't found to stand
+pub went : (samples : Samples) (out : Sample) (size : Size) (left : SourceMap) (map_file : MapFile) (none record_file : RecordFile) (before found : Verdict) → TriesTogether samples out map_file none before
+    → FindsInRecords samples.volume size before left none record_file found → found ≡ Stands → sizes_of out.volume ≡ map_output map_file ∷ []
+went samples out size left map_file none record_file Stands found tries finds is = tries.map_sizes.output_is
+went samples out size left map_file (Cuts head none) (Cuts top cuts) (Fails n r p) found tries finds is = absurd (cc (sym finds.1 ∙ is))
+went samples out size left map_file (Blocks head none) (Blocks top blocks) (Fails n r p) found tries finds is = absurd (cc (sym finds.1 ∙ is))
+went samples out size left map_file (Cuts head none) (Blocks top blocks) (Fails n r p) found tries finds is = absurd finds
+went samples out size left map_file (Cuts head none) (Walk top taps gap walk tables) (Fails n r p) found tries finds is = absurd finds
+went samples out size left map_file (Blocks head none) (Cuts top cuts) (Fails n r p) found tries finds is = absurd finds
+went samples out size left map_file (Blocks head none) (Walk top taps gap walk tables) (Fails n r p) found tries finds is = absurd finds
+went samples out size left map_file (Walk head taps gap walk tables) record_file (Fails n r p) found tries finds is = absurd finds

@@ -3,7 +3,6 @@
 use Rattle.std.specs.Prelude.{◌≡◌, ◌⊎◌, ◌+◌, ℕ, List, [], Result, Ok, Err}
 use Rattle.shelf_traits.specs.Files.{ShelfState}
 use Rattle.shelf_traits.specs.declared.fault.ReadError.{ReadError}
-use Rattle.file_bytes.specs.Reading.{Reading}
 use Rattle.cells.specs.declared.place.Size.{Size}
 use Rattle.cells.specs.Cells.{Cells}
 use Rattle.cells.specs.Places.{cell_count}
@@ -13,7 +12,6 @@ use Rattle.map_canvas.specs.Maps.{SourceMap, empty_map}
 use Rattle.source_map.specs.declared.head.Head.{Head}
 use Rattle.source_map.specs.declared.map_file.MapFile.{MapFile}
 use Rattle.source_map.specs.declared.map_file.MapFile.TheVariants.{Cells as CellMap, Frames}
-use Rattle.source_map.specs.Readings.{Found, ReadsFrom}
 use Rattle.cut_check.specs.declared.record.CutFault.{CutFault}
 use Rattle.cut_check.specs.declared.record.CutRecord.{CutRecord}
 use Rattle.cut_check.specs.Records.{CutStands, IsFirstCutFault, setting}
@@ -44,7 +42,7 @@ JudgesRecordFile samples out map_file name was now (Ok verdict) =
 JudgesRecordFile samples out map_file name was now (Err refusal) =
     ReadsRecordFile name was now (Err refusal)
 
--- the same of what is read from a place to the end of the file, and from a place on
+-- the same of what is read from a place to the end of the file
 abbrev pub JudgesToEnd : (RecordFile → Verdict → Type 0) → List ℕ → ℕ → ShelfState → ShelfState
     → (ℕ → List ℕ → Result RecordFile ReadError) → Result Verdict ReadError → Type 0
 JudgesToEnd IsJudged name place was now read (Ok verdict) =
@@ -52,14 +50,6 @@ JudgesToEnd IsJudged name place was now read (Ok verdict) =
     × IsJudged record_file verdict
 JudgesToEnd IsJudged name place was now read (Err refusal) =
     ReadsToEnd (Unit {0}) name place was now read (Err refusal)
-
-abbrev pub JudgesFrom : {A : Type 0} → (A → Verdict → Type 0) → List ℕ → ℕ → ShelfState
-    → ShelfState → Reading → (ℕ → List ℕ → Result (A × ℕ) ReadError) → Result Verdict ReadError
-    → Type 0
-JudgesFrom {A} IsJudged name place was now r read (Ok verdict) =
-    (x : A) × Found name place now r read x × IsJudged x verdict
-JudgesFrom IsJudged name place was now r read (Err refusal) =
-    ReadsFrom (Unit {0}) name place was now r read (Err refusal)
 
 -- this is the fault of a record after so many others
 pub record IsFaultAfter (i kind fault_place number rule place : ℕ) : Type 0 where
@@ -190,3 +180,10 @@ JudgesLeft samples picture (CellMap m sizes version) left (Fails number rule pla
     LeavesOther left m number rule place
     ⊎ (LeavesEach left m
     × CopiesOther samples picture (CellMap m sizes version) number rule place)
+
+-- the same after records in which this was found
+abbrev pub JudgesAfter : Verdict → Cells → Cells → MapFile → SourceMap → Verdict → Type 0
+JudgesAfter Stands samples picture map_file left verdict =
+    JudgesLeft samples picture map_file left verdict
+JudgesAfter (Fails number rule place) samples picture map_file left verdict =
+    verdict ≡ Fails number rule place

@@ -8,7 +8,7 @@ ghost use Rattle.map_canvas.specs.Canvases.{IsCanvas, StandsOver};
 ghost use Rattle.map_canvas.specs.Maps.{empty_map};
 ghost use Rattle.cert_file.specs.RecordFiles.{IsRecordFile, IsWalkFile};
 ghost use Rattle.sample_files.specs.Several.{AreSoundSamples};
-ghost use Rattle.standing_files.specs.AsRead.{FindsInRecords, IsCanvasSize, IsOfColours, JudgesLeft, JudgesRecordFile, JudgesToEnd, LeavesCells, TriesTogether, read_as};
+ghost use Rattle.standing_files.specs.AsRead.{FindsInRecords, IsCanvasSize, IsOfColours, JudgesAfter, JudgesRecordFile, JudgesToEnd, LeavesCells, TriesTogether, read_as};
 ghost use Rattle.standing_files.specs.Standing.{IsVerdict, map_output};
 ghost use Rattle.standing_files.specs.declared.verdict.Verdict.TheVariants.{Stands};
 
@@ -58,11 +58,22 @@ fn canvas_size(before: Verdict, map_file: &MapFile) -> Size
     }
 }
 
-// What rules 16 and 17 say of a map of cells and a picture, where records leave a map.
-fn judge_left(samples: &Volume, picture: &Volume, map_file: &MapFile, left: &Map) -> Verdict
-    requires one { sizes_of picture.now ≡ map_output map_file.now ∷ [] }
-    ensures { JudgesLeft samples.now picture.now map_file.now left.now result }
+// What rules 16 and 17 say of a map of cells and a picture, where records leave a map; where a rule of records was
+// broken, that.
+fn judge_left(
+    found: Verdict,
+    samples: &Volume,
+    picture: &Volume,
+    map_file: &MapFile,
+    left: &Map,
+) -> Verdict
+    requires one { found ≡ Stands → sizes_of picture.now ≡ map_output map_file.now ∷ [] }
+    ensures { JudgesAfter found samples.now picture.now map_file.now left.now result }
 {
+    match found {
+        Verdict::Stands => {}
+        fails => return fails,
+    }
     if let MapFile::Cells { map, .. } = map_file {
         match first_other_source(left, map) {
             None => {}
@@ -136,40 +147,6 @@ fn judge_records_to_end<S: Shelf>(
     }
 }
 
-// Judges files, where the record file is of cuts or of blocks and read from after its head on, over an empty canvas
-// of the output's size, and by what was found of whether they go together.
-fn judge_over<S: Shelf>(
-    alloc: Global,
-    canvas: &mut Canvas,
-    samples: &Samples,
-    out: &Sample,
-    map_file: &MapFile,
-    before: Verdict,
-    file: &mut FileReader,
-    none: &RecordFile,
-    shelf: &mut S,
-    name: &str,
-) -> Result<Verdict, ReadError>
-    requires follows { Follows name.now (S.state shelf.old) file.old }
-    requires room { file.old.at < 2 ^ 31 }
-    requires over { StandsOver canvas.old samples.now.volume }
-    requires canvas { IsCanvas canvas.old }
-    requires empty { canvas.old.map ≡ empty_map canvas.old.map.size }
-    requires cells { LeavesCells none.now }
-    requires sound { AreSoundSamples samples.now }
-    requires tried { TriesTogether samples.now out.now map_file.now none.now before }
-    requires sized { IsCanvasSize before map_file.now canvas.old.map.size }
-    ensures answer { JudgesToEnd (IsVerdict samples.now out.now map_file.now)
-        name.now file.old.at (S.state shelf.old) (S.state shelf.new) (read_as none.now) result }
-    ensures reads { OnlyReadsFile name.now (S.state shelf.old) (S.state shelf.new) }
-{
-    let volume = &samples.volume;
-    match judge_records_to_end(alloc, canvas, volume, before, file, none, shelf, name)? {
-        Verdict::Stands => Ok(judge_left(volume, &out.volume, map_file, canvas.map())),
-        fails => Ok(fails),
-    }
-}
-
 // Judges files whose record file is of cuts or of blocks and is read from after its head on. `none` has its
 // head and kind, and no record: whether files go together doesn't depend on the records.
 fn judge_cells<S: Shelf>(
@@ -192,19 +169,13 @@ fn judge_cells<S: Shelf>(
 {
     let before = try_together(samples, out, map_file, none);
     let size = canvas_size(before, map_file);
-    let mut canvas = Canvas::empty(alloc, size, samples.volume.samples())?;
-    let verdict = judge_over(
-        alloc,
-        &mut canvas,
-        samples,
-        out,
-        map_file,
-        before,
-        file,
-        none,
-        shelf,
-        name,
-    );
+    let volume = &samples.volume;
+    let mut canvas = Canvas::empty(alloc, size, volume.samples())?;
+    let found = judge_records_to_end(alloc, &mut canvas, volume, before, file, none, shelf, name);
+    let verdict = match found {
+        Ok(found) => Ok(judge_left(found, volume, &out.volume, map_file, canvas.map())),
+        Err(error) => Err(error),
+    };
     drop(canvas);
     verdict
 }

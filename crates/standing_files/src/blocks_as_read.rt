@@ -5,9 +5,8 @@ ghost use Rattle.file_bytes.specs.Reading.{Follows};
 ghost use Rattle.map_canvas.specs.Canvases.{IsCanvas, StandsOver};
 ghost use Rattle.map_canvas.specs.Maps.{empty_map};
 ghost use Rattle.block_check.specs.Blocks.{IsFormedBlock};
-ghost use Rattle.cert_file.specs.BlockReading.{blocks_read};
 ghost use Rattle.cert_file.specs.RecordFiles.{blocks_file_read};
-ghost use Rattle.standing_files.specs.AsRead.{FindsInBlock, FindsInBlockFile, FindsInBlocks, JudgesFrom, JudgesToEnd};
+ghost use Rattle.standing_files.specs.AsRead.{FindsInBlock, FindsInBlockFile, JudgesToEnd};
 ghost use Rattle.standing_files.specs.declared.verdict.Verdict.TheVariants.{Stands};
 
 use crate::verdict::Verdict;
@@ -58,42 +57,8 @@ fn judge_block(
     }
 }
 
-// Reads so many records, and judges each over the canvas that those before it leave.
-fn judge_each_block<S: Shelf>(
-    alloc: Global,
-    canvas: &mut Canvas,
-    samples: &Volume,
-    before: Verdict,
-    file: &mut FileReader,
-    count: u32,
-    shelf: &mut S,
-    name: &str,
-) -> Result<Verdict, ReadError>
-    requires follows { Follows name.now (S.state shelf.old) file.old }
-    requires room { file.old.at < 2 ^ 32 }
-    requires over { StandsOver canvas.old samples.now }
-    requires canvas { IsCanvas canvas.old }
-    requires colours { before ≡ Stands → samples.now.k ≡ 3 }
-    requires empty { canvas.old.map ≡ empty_map canvas.old.map.size }
-    ensures answer { JudgesFrom
-        (FindsInBlocks samples.now canvas.old.map.size before canvas.new.map)
-        name.now file.old.at (S.state shelf.old) (S.state shelf.new) file.new
-        (blocks_read count) result }
-    ensures reads { OnlyReadsFile name.now (S.state shelf.old) (S.state shelf.new) }
-{
-    let mut verdict = before;
-    let mut cells = 0;
-    for i in 0..count {
-        let block = read_block(alloc, file, cells, shelf, name)?;
-        cells += cells_of(block.placement.rect.size) as u64;
-        let judged = judge_block(alloc, canvas, samples, i, verdict, &block);
-        drop(block);
-        verdict = judged?;
-    }
-    Ok(verdict)
-}
-
-/// Reads the records after a head, to the end of the file, and judges each where no rule was broken before.
+/// Reads the records after a head, to the end of the file, and judges each over the canvas that those before it
+/// leave, where no rule was broken before.
 pub(crate) fn judge_blocks_to_end<S: Shelf>(
     alloc: Global,
     canvas: &mut Canvas,
@@ -117,7 +82,15 @@ pub(crate) fn judge_blocks_to_end<S: Shelf>(
     ensures reads { OnlyReadsFile name.now (S.state shelf.old) (S.state shelf.new) }
 {
     let count = read_count(file, shelf, name)?;
-    let verdict = judge_each_block(alloc, canvas, samples, before, file, count, shelf, name)?;
+    let mut verdict = before;
+    let mut cells = 0;
+    for i in 0..count {
+        let block = read_block(alloc, file, cells, shelf, name)?;
+        cells += cells_of(block.placement.rect.size) as u64;
+        let judged = judge_block(alloc, canvas, samples, i, verdict, &block);
+        drop(block);
+        verdict = judged?;
+    }
     file.end(shelf, name)?;
     Ok(verdict)
 }

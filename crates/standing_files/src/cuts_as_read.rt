@@ -5,9 +5,8 @@ ghost use Rattle.file_bytes.specs.Reading.{Follows};
 ghost use Rattle.map_canvas.specs.Canvases.{IsCanvas, StandsOver};
 ghost use Rattle.map_canvas.specs.Maps.{empty_map};
 ghost use Rattle.cut_replay.specs.Replay.{IsFormed};
-ghost use Rattle.cert_file.specs.CutReading.{cuts_read};
 ghost use Rattle.cert_file.specs.RecordFiles.{cuts_file_read};
-ghost use Rattle.standing_files.specs.AsRead.{FindsInCut, FindsInCutFile, FindsInCuts, JudgesFrom, JudgesToEnd};
+ghost use Rattle.standing_files.specs.AsRead.{FindsInCut, FindsInCutFile, JudgesToEnd};
 
 use crate::verdict::Verdict;
 use cells::Volume;
@@ -52,40 +51,8 @@ fn judge_cut(
     }
 }
 
-// Reads so many records, and judges each over the canvas that those before it leave.
-fn judge_each_cut<S: Shelf>(
-    alloc: Global,
-    canvas: &mut Canvas,
-    samples: &Volume,
-    before: Verdict,
-    file: &mut FileReader,
-    head: &Head,
-    count: u32,
-    shelf: &mut S,
-    name: &str,
-) -> Result<Verdict, ReadError>
-    requires follows { Follows name.now (S.state shelf.old) file.old }
-    requires room { file.old.at < 2 ^ 32 }
-    requires over { StandsOver canvas.old samples.now }
-    requires canvas { IsCanvas canvas.old }
-    requires empty { canvas.old.map ≡ empty_map canvas.old.map.size }
-    ensures answer { JudgesFrom
-        (FindsInCuts samples.now canvas.old.map.size before canvas.new.map)
-        name.now file.old.at (S.state shelf.old) (S.state shelf.new) file.new
-        (cuts_read head.now.version head.now.samples count) result }
-    ensures reads { OnlyReadsFile name.now (S.state shelf.old) (S.state shelf.new) }
-{
-    let mut verdict = before;
-    let mut cells = 0;
-    for i in 0..count {
-        let cut = read_cut(alloc, file, head.version, &head.samples, cells, shelf, name)?;
-        cells += cells_of(cut.placement.rect.size) as u64;
-        verdict = judge_cut(canvas, samples, i, verdict, &cut);
-    }
-    Ok(verdict)
-}
-
-/// Reads the records after a head, to the end of the file, and judges each where no rule was broken before.
+/// Reads the records after a head, to the end of the file, and judges each over the canvas that those before it
+/// leave, where no rule was broken before.
 pub(crate) fn judge_cuts_to_end<S: Shelf>(
     alloc: Global,
     canvas: &mut Canvas,
@@ -108,9 +75,13 @@ pub(crate) fn judge_cuts_to_end<S: Shelf>(
     ensures reads { OnlyReadsFile name.now (S.state shelf.old) (S.state shelf.new) }
 {
     let count = read_count(file, shelf, name)?;
-    let verdict = judge_each_cut(
-        alloc, canvas, samples, before, file, head, count, shelf, name,
-    )?;
+    let mut verdict = before;
+    let mut cells = 0;
+    for i in 0..count {
+        let cut = read_cut(alloc, file, head.version, &head.samples, cells, shelf, name)?;
+        cells += cells_of(cut.placement.rect.size) as u64;
+        verdict = judge_cut(canvas, samples, i, verdict, &cut);
+    }
     file.end(shelf, name)?;
     Ok(verdict)
 }

@@ -1,18 +1,24 @@
-use Rattle.std.proofs.Common.{ℕ, List, refl}
+use Rattle.std.proofs.lemmas.Grind.{common_steps}
+use Rattle.std.proofs.Common.{◌≡◌, ◌++◌, ◌∷◌, [], ◌+◌, ◌∙◌, ℕ, List, refl, sym, subst, arith}
+use Rattle.std.proofs.lemmas.List.{length-append}
 use Rattle.std.proofs.lemmas.Result.{err_from_is_err_and}
 use Rattle.std.specs.Int.{w32}
 use Rattle.std.specs.Prelude.{Result, Ok, Err}
 use Rattle.shelf_traits.specs.declared.fault.ReadError.{ReadError}
 use Rattle.shelf_traits.proofs.FileLaws.{only_reads_then}
 use Rattle.block_check.specs.declared.block.BlockRecord.{BlockRecord}
-use Rattle.source_map.specs.Readings.{number_read}
+use Rattle.block_check.specs.Blocks.{block_cells}
+use Rattle.source_map.specs.Readings.{Found, ReadsFrom, number_read}
 use Rattle.source_map.proofs.FieldLaws.{lifted}
 use Rattle.source_map.specs.declared.head.Head.{Head}
 use Rattle.cert_file.specs.declared.file.RecordFile.{RecordFile}
 use Rattle.cert_file.specs.declared.file.RecordFile.TheVariants.{Blocks}
-use Rattle.cert_file.specs.BlockReading.{blocks_read}
+use Rattle.cert_file.specs.BlockReading.{block_read, blocks_read}
 use Rattle.cert_file.specs.Rules.{any_rule}
+use Rattle.cert_file.proofs.Bits.{block_cells-append}
+use Rattle.cert_file.proofs.Readings.{each_more, each_stops}
 use Rattle.cert_file.proofs.RecordReading.{chain_to_end, ends, ends_not, then_to_end, to_end_stops, value_at_end}
+use Rattle.standing_files.proofs.Finding.{block_found}
 use Rattle.standing_files.proofs.blocks_as_read.judge_blocks_to_end.Goals as goal
 
 abbrev end : Head → List BlockRecord → ℕ → List ℕ → Result RecordFile ReadError
@@ -31,60 +37,111 @@ returns-in_err-count-clause-answer g c =
     (to_end_stops (Unit {0}) name c.args.file.now.at (number_read w32 any_rule) (rest c.args.head.now) (state c.args.shelf.now) (state c.read_count.new.shelf) c.read_count.new.file e
     (lifted (Unit {0}) name c.args.file.now.at (number_read w32 any_rule) (state c.args.shelf.now) (state c.read_count.new.shelf) c.read_count.new.file (Err e) c.in_err-count.ensures.answer))
 
-pub returns-in_err-verdict-clause-answer : goal.returns-in_err-verdict-clause-answer
-returns-in_err-verdict-clause-answer g c =
+pub loop-i-init : goal.loop-i-init
+loop-i-init g c = grind (arith, common_steps)
+
+pub loop-i-preserved : goal.loop-i-preserved
+loop-i-preserved g c =
     let state = g.S.Shelf.state in
     let name = c.args.name.now in
-    let e = c.in_err-verdict.field-0.0 in
+    let start = c.read_count.new in
+    let read = block_read in
+    let block = c.in_ok-block.block in
+    let ok = c.in_ok-block.ensures {u = tt} in
+    let inv = c.loop-i.invariant in
+    let so = inv.so_far in
+    record {
+      at = omega (arith, ok.place, inv.at, c.cells_of.ensures);
+      few = omega (arith, ok.cells, c.cells_of.ensures);
+      so_far = record {
+        blocks = so.blocks ++ block ∷ [];
+        count = omega (arith, length-append so.blocks (block ∷ []), so.count);
+        cells_are = (λ k. so.cells_are k + c.cells_of.ensures k) ∙ sym (block_cells-append so.blocks block);
+        found = each_more name start.file.at c.loop-i.i (λ front. read (block_cells front)) (state start.shelf) (state c.loop-i.shelf) (state c.read_block.new.shelf) c.loop-i.file c.read_block.new.file
+            so.blocks block inv.reads ok.reads so.found
+            (subst (λ n. Found name c.loop-i.file.at (state c.read_block.new.shelf) c.read_block.new.file (read n) block) so.cells_are ok.answer);
+        judged = block_found c.args.samples.now c.args.canvas.now.map.size so.blocks block c.loop-i.i so.count c.loop-i.canvas.map c.judge_block-judged.new.canvas.map c.args.before c.loop-i.verdict c.in_ok-verdict.verdict
+            so.judged (c.in_ok-verdict.ensures {u = tt}).found;
+      };
+      over = c.judge_block-judged.ensures.over;
+      canvas = c.judge_block-judged.ensures.canvas;
+      reads = only_reads_then (state start.shelf) (state c.loop-i.shelf) (state c.read_block.new.shelf) inv.reads ok.reads;
+    }
+
+pub judge_block-judged-requires-clause-colours : goal.judge_block-judged-requires-clause-colours
+judge_block-judged-requires-clause-colours g c = grind (arith, common_steps)
+
+pub returns-in_err-block-clause-answer : goal.returns-in_err-block-clause-answer
+returns-in_err-block-clause-answer g c =
+    let state = g.S.Shelf.state in
+    let name = c.args.name.now in
+    let e = c.in_err-block.field-0.0 in
+    let start = c.read_count.new in
     let count : ℕ = c.in_ok-count.count in
     let ok0 = c.in_ok-count.ensures {u = tt} in
-    let p = err_from_is_err_and c.from_residual-in_err-verdict.result c.from_residual-in_err-verdict.ensures.1 in
+    let read = block_read in
+    let so = c.loop-i.invariant.so_far in
+    let p = err_from_is_err_and c.from_residual-in_err-block.result c.from_residual-in_err-block.ensures.1 in
     rw (p.1, p.2)
-    (then_to_end (Unit {0}) name c.args.file.now.at (number_read w32 any_rule) (rest c.args.head.now) (state c.args.shelf.now) (state c.read_count.new.shelf) (state c.judge_each_block.new.shelf) c.read_count.new.file count (Err e)
-    ok0.reads c.in_err-verdict.ensures.reads ok0.answer
-    (to_end_stops (Unit {0}) name c.read_count.new.file.at (blocks_read count) (end c.args.head.now) (state c.read_count.new.shelf) (state c.judge_each_block.new.shelf) c.judge_each_block.new.file e c.in_err-verdict.ensures.answer))
+    (then_to_end (Unit {0}) name c.args.file.now.at (number_read w32 any_rule) (rest c.args.head.now) (state c.args.shelf.now) (state start.shelf) (state c.read_block.new.shelf) start.file count (Err e)
+    ok0.reads (only_reads_then (state start.shelf) (state c.loop-i.shelf) (state c.read_block.new.shelf) c.loop-i.invariant.reads c.in_err-block.ensures.reads) ok0.answer
+    (to_end_stops (Unit {0}) name start.file.at (blocks_read count) (end c.args.head.now) (state start.shelf) (state c.read_block.new.shelf) c.read_block.new.file e
+    (each_stops (Unit {0}) name start.file.at c.loop-i.i count (λ front. read (block_cells front)) (state start.shelf) (state c.loop-i.shelf) (state c.read_block.new.shelf) c.loop-i.file c.read_block.new.file
+    so.blocks e c.loop-i-test.true c.loop-i.invariant.reads c.in_err-block.ensures.reads so.found
+    (subst (λ n. ReadsFrom (Unit {0}) name c.loop-i.file.at (state c.loop-i.shelf) (state c.read_block.new.shelf) c.read_block.new.file (read n) (Err e)) so.cells_are c.in_err-block.ensures.answer))))
 
 pub returns-in_err-end-clause-answer : goal.returns-in_err-end-clause-answer
 returns-in_err-end-clause-answer g c =
     let state = g.S.Shelf.state in
     let name = c.args.name.now in
     let e = c.in_err-end.field-0.0 in
+    let start = c.read_count.new in
     let count : ℕ = c.in_ok-count.count in
     let ok0 = c.in_ok-count.ensures {u = tt} in
-    let ok1 = c.in_ok-verdict.ensures {u = tt} in
-    let blocks : List BlockRecord = ok1.answer.0 in
+    let inv = c.loop-i.invariant in
+    let blocks : List BlockRecord = inv.so_far.blocks in
+    let all : c.loop-i.i ≡ count = omega (arith, c.loop-i-test.false, c.loop-i.auto.i-end) in
+    let found = subst (λ n. Found name start.file.at (state c.loop-i.shelf) c.loop-i.file (blocks_read n) blocks) all inv.so_far.found in
     let p = err_from_is_err_and c.from_residual-in_err-end.result c.from_residual-in_err-end.ensures.1 in
     rw (p.1, p.2)
-    (then_to_end (Unit {0}) name c.args.file.now.at (number_read w32 any_rule) (rest c.args.head.now) (state c.args.shelf.now) (state c.read_count.new.shelf) (state c.end.new.shelf) c.read_count.new.file count (Err e)
-    ok0.reads (only_reads_then (state c.read_count.new.shelf) (state c.judge_each_block.new.shelf) (state c.end.new.shelf) ok1.reads c.in_err-end.ensures.reads) ok0.answer
-    (then_to_end (Unit {0}) name c.read_count.new.file.at (blocks_read count) (end c.args.head.now) (state c.read_count.new.shelf) (state c.judge_each_block.new.shelf) (state c.end.new.shelf) c.judge_each_block.new.file blocks (Err e)
-    ok1.reads c.in_err-end.ensures.reads ok1.answer.1
-    (ends_not (Unit {0}) name c.judge_each_block.new.file.at (state c.judge_each_block.new.shelf) (state c.end.new.shelf) (Blocks c.args.head.now blocks) e c.in_err-end.ensures.stops)))
+    (then_to_end (Unit {0}) name c.args.file.now.at (number_read w32 any_rule) (rest c.args.head.now) (state c.args.shelf.now) (state start.shelf) (state c.end.new.shelf) start.file count (Err e)
+    ok0.reads (only_reads_then (state start.shelf) (state c.loop-i.shelf) (state c.end.new.shelf) inv.reads c.in_err-end.ensures.reads) ok0.answer
+    (then_to_end (Unit {0}) name start.file.at (blocks_read count) (end c.args.head.now) (state start.shelf) (state c.loop-i.shelf) (state c.end.new.shelf) c.loop-i.file blocks (Err e)
+    inv.reads c.in_err-end.ensures.reads found
+    (ends_not (Unit {0}) name c.loop-i.file.at (state c.loop-i.shelf) (state c.end.new.shelf) (Blocks c.args.head.now blocks) e c.in_err-end.ensures.stops)))
 
 pub returns-clause-answer : goal.returns-clause-answer
 returns-clause-answer g c =
     let state = g.S.Shelf.state in
     let name = c.args.name.now in
+    let start = c.read_count.new in
     let count : ℕ = c.in_ok-count.count in
     let ok0 = c.in_ok-count.ensures {u = tt} in
-    let ok1 = c.in_ok-verdict.ensures {u = tt} in
-    let blocks : List BlockRecord = ok1.answer.0 in
+    let inv = c.loop-i.invariant in
+    let blocks : List BlockRecord = inv.so_far.blocks in
+    let all : c.loop-i.i ≡ count = omega (arith, c.loop-i-test.false, c.loop-i.auto.i-end) in
+    let found = subst (λ n. Found name start.file.at (state c.loop-i.shelf) c.loop-i.file (blocks_read n) blocks) all inv.so_far.found in
     let ok2 = c.in_ok-end.ensures {u = tt} in (
       Blocks c.args.head.now blocks,
-      then_to_end (Unit {0}) name c.args.file.now.at (number_read w32 any_rule) (rest c.args.head.now) (state c.args.shelf.now) (state c.read_count.new.shelf) (state c.end.new.shelf) c.read_count.new.file count (Ok (Blocks c.args.head.now blocks))
-          ok0.reads (only_reads_then (state c.read_count.new.shelf) (state c.judge_each_block.new.shelf) (state c.end.new.shelf) ok1.reads ok2.reads) ok0.answer
-          (then_to_end (Unit {0}) name c.read_count.new.file.at (blocks_read count) (end c.args.head.now) (state c.read_count.new.shelf) (state c.judge_each_block.new.shelf) (state c.end.new.shelf) c.judge_each_block.new.file blocks (Ok (Blocks c.args.head.now blocks))
-          ok1.reads ok2.reads ok1.answer.1
-          (ends (Unit {0}) name c.judge_each_block.new.file.at (state c.judge_each_block.new.shelf) (state c.end.new.shelf) (Blocks c.args.head.now blocks) ok2.stops)),
-      (refl, ok1.answer.2),
+      then_to_end (Unit {0}) name c.args.file.now.at (number_read w32 any_rule) (rest c.args.head.now) (state c.args.shelf.now) (state start.shelf) (state c.end.new.shelf) start.file count (Ok (Blocks c.args.head.now blocks))
+          ok0.reads (only_reads_then (state start.shelf) (state c.loop-i.shelf) (state c.end.new.shelf) inv.reads ok2.reads) ok0.answer
+          (then_to_end (Unit {0}) name start.file.at (blocks_read count) (end c.args.head.now) (state start.shelf) (state c.loop-i.shelf) (state c.end.new.shelf) c.loop-i.file blocks (Ok (Blocks c.args.head.now blocks))
+          inv.reads ok2.reads found
+          (ends (Unit {0}) name c.loop-i.file.at (state c.loop-i.shelf) (state c.end.new.shelf) (Blocks c.args.head.now blocks) ok2.stops)),
+      (refl, inv.so_far.judged),
     )
 
 pub returns-clause-reads : goal.returns-clause-reads
 returns-clause-reads g c =
     let state = g.S.Shelf.state in
-    only_reads_then (state c.args.shelf.now) (state c.read_count.new.shelf) (state c.end.new.shelf) (c.in_ok-count.ensures {u = tt}).reads (only_reads_then (state c.read_count.new.shelf) (state c.judge_each_block.new.shelf) (state c.end.new.shelf) (c.in_ok-verdict.ensures {u = tt}).reads (c.in_ok-end.ensures {u = tt}).reads)
+    only_reads_then (state c.args.shelf.now) (state c.read_count.new.shelf) (state c.end.new.shelf) (c.in_ok-count.ensures {u = tt}).reads (only_reads_then (state c.read_count.new.shelf) (state c.loop-i.shelf) (state c.end.new.shelf) c.loop-i.invariant.reads (c.in_ok-end.ensures {u = tt}).reads)
 
 pub returns-in_err-end-clause-reads : goal.returns-in_err-end-clause-reads
 returns-in_err-end-clause-reads g c =
     let state = g.S.Shelf.state in
-    only_reads_then (state c.args.shelf.now) (state c.read_count.new.shelf) (state c.end.new.shelf) (c.in_ok-count.ensures {u = tt}).reads (only_reads_then (state c.read_count.new.shelf) (state c.judge_each_block.new.shelf) (state c.end.new.shelf) (c.in_ok-verdict.ensures {u = tt}).reads c.in_err-end.ensures.reads)
+    only_reads_then (state c.args.shelf.now) (state c.read_count.new.shelf) (state c.end.new.shelf) (c.in_ok-count.ensures {u = tt}).reads (only_reads_then (state c.read_count.new.shelf) (state c.loop-i.shelf) (state c.end.new.shelf) c.loop-i.invariant.reads c.in_err-end.ensures.reads)
+
+pub returns-in_err-block-clause-reads : goal.returns-in_err-block-clause-reads
+returns-in_err-block-clause-reads g c =
+    let state = g.S.Shelf.state in
+    only_reads_then (state c.args.shelf.now) (state c.read_count.new.shelf) (state c.read_block.new.shelf) (c.in_ok-count.ensures {u = tt}).reads (only_reads_then (state c.read_count.new.shelf) (state c.loop-i.shelf) (state c.read_block.new.shelf) c.loop-i.invariant.reads c.in_err-block.ensures.reads)

@@ -3,14 +3,14 @@ use Rattle.limits.specs.declared.bounds.TheConstants.{MOST_BOX_CELLS}
 use Rattle.shelf_traits.specs.Files.{OnlyReadsFile}
 use Rattle.map_canvas.specs.Canvases.{IsCanvas, StandsOver}
 use Rattle.standing_files.proofs.Finding.{BlocksSoFar}
-use Rattle.standing_files.proofs.blocks_as_read.judge_each_block.Given as goal
+use Rattle.standing_files.proofs.blocks_as_read.judge_blocks_to_end.Given as goal
 
 abbrev pub invariant-loop-i : goal.invariant-loop-i
 invariant-loop-i g l = record {
-  at : l.file.at ≤ l.fn.file.at + 29 * l.cells;
+  at : l.file.at ≤ l.initial.file.at + 29 * l.cells;
   few : l.cells ≤ MOST_BOX_CELLS;
-  so_far : BlocksSoFar l.name l.fn.file.at (g.S.Shelf.state l.shelf) l.file l.i l.cells l.samples l.fn.canvas.map.size l.fn.before l.canvas.map l.verdict;
+  so_far : BlocksSoFar l.name l.initial.file.at (g.S.Shelf.state l.shelf) l.file l.i l.cells l.samples l.fn.canvas.map.size l.fn.before l.canvas.map l.verdict;
   over : StandsOver l.canvas l.samples;
   canvas : IsCanvas l.canvas;
-  reads : OnlyReadsFile l.name (g.S.Shelf.state l.fn.shelf) (g.S.Shelf.state l.shelf);
+  reads : OnlyReadsFile l.name (g.S.Shelf.state l.initial.shelf) (g.S.Shelf.state l.shelf);
 }

@@ -1,6 +1,12 @@
 -- The verdict on files whose records were judged as they were read.
 use Rattle.std.proofs.Common.{◌≡◌, ◌∙◌, ◌∷◌, [], ℕ, List, inl, inr, refl, sym, subst}
 use Rattle.std.proofs.lemmas.Bool.{ne_eqb}
+use Rattle.std.specs.Prelude.{Result, Ok, Err}
+use Rattle.shelf_traits.specs.Files.{OnlyReads, ShelfState}
+use Rattle.shelf_traits.specs.declared.fault.ReadError.{ReadError}
+use Rattle.file_bytes.specs.Reading.{Reading}
+use Rattle.source_map.specs.Heads.{head_read}
+use Rattle.source_map.specs.Readings.{Found}
 use Rattle.cells.specs.declared.place.Size.{Size}
 use Rattle.cells.specs.Cells.{sizes_of}
 use Rattle.cells.specs.Firsts.{Each, IsFirstWithout}
@@ -14,7 +20,8 @@ use Rattle.cut_check.specs.declared.record.CutRecord.{CutRecord}
 use Rattle.block_check.specs.declared.block.BlockRecord.{BlockRecord}
 use Rattle.cert_file.specs.declared.file.RecordFile.{RecordFile}
 use Rattle.cert_file.specs.declared.file.RecordFile.TheVariants.{Blocks, Cuts, Walk}
-use Rattle.cert_file.specs.RecordFiles.{records_read}
+use Rattle.cert_file.specs.RecordFiles.{ReadsRecordFile, ReadsToEnd, kinds as record_kinds, record_magic, records_read, versions}
+use Rattle.cert_file.proofs.RecordReading.{then_to_end, whole_file}
 use Rattle.cert_file.specs.WalkReading.{walk_file_read}
 use Rattle.sample_files.specs.declared.form.Form.{Form}
 use Rattle.sample_files.specs.declared.form.Form.TheVariants.{Clip, Picture}
@@ -23,7 +30,7 @@ use Rattle.sample_files.specs.declared.several.Samples.{Samples}
 use Rattle.sample_files.specs.Samples.{AreSoundIn}
 use Rattle.standing_files.specs.declared.verdict.Verdict.{Verdict}
 use Rattle.standing_files.specs.declared.verdict.Verdict.TheVariants.{Stands, Fails}
-use Rattle.standing_files.specs.AsRead.{FindsInBlocks, FindsInCuts, FindsInRecords, IsCanvasSize, IsOfColours, JudgesAfter, JudgesLeft, LeavesEach, TriesTogether}
+use Rattle.standing_files.specs.AsRead.{FindsInBlocks, FindsInCuts, FindsInRecords, IsCanvasSize, IsOfColours, JudgesAfter, JudgesLeft, JudgesRecordFile, JudgesToEnd, LeavesEach, TriesTogether}
 use Rattle.standing_files.specs.Standing.{AreKindsOfOneRun, GoTogether, IsBrokenBlock, IsBrokenCut, IsLeftAt, IsVerdict, LeaveAt, LeaveMap, RecordsStand, TakesForm, map_output}
 use Rattle.standing_files.proofs.Judging.{block_colours}
 
@@ -71,6 +78,20 @@ colours samples out map_file (Blocks head blocks) before tries sound is =
 -- what isn't of cuts or of blocks is of a walk
 pub read_as_walk : (kind : ℕ) (head : Head) (place : ℕ) (bytes : List ℕ) → (kind ≡ 0 → ⊥) → (kind ≡ 1 → ⊥) → records_read kind head place bytes ≡ walk_file_read head place bytes
 read_as_walk kind head place bytes no_cuts no_blocks = rw (ne_eqb kind 0 no_cuts, ne_eqb kind 1 no_blocks) refl
+
+-- A file that is read from its head on is read whole.
+
+module _ {names : List (List ℕ)} (name : List ℕ) (place : ℕ) (start : place ≡ 0) (a b c : ShelfState) (r : Reading) (head : Head) (kind : ℕ) (read : ℕ → List ℕ → Result RecordFile ReadError) (before : OnlyReads names a b) (after : OnlyReads names b c)
+    (found : Found name place b r (head_read record_magic versions record_kinds) (head, kind)) (same : (at : ℕ) (bytes : List ℕ) → records_read kind head at bytes ≡ read at bytes) where
+  pub whole_read : (result : Result RecordFile ReadError) → ReadsToEnd (Unit {0}) name r.at b c read result → ReadsRecordFile name a c result
+  whole_read result answer =
+      whole_file name a c result (then_to_end (Unit {0}) name 0 (head_read record_magic versions record_kinds) (λ head. records_read head.1 head.0) a b c r (head, kind) result before after
+      (subst (λ place. Found name place b r (head_read record_magic versions record_kinds) (head, kind)) start found)
+      (subst (λ (read : ℕ → List ℕ → Result RecordFile ReadError). ReadsToEnd (Unit {0}) name r.at b c read result) (λ i at bytes. sym (same at bytes) i) answer))
+
+  pub whole_judged : (samples : Samples) (out : Sample) (map_file : MapFile) (result : Result Verdict ReadError) → JudgesToEnd (IsVerdict samples out map_file) name r.at b c read result → JudgesRecordFile samples out map_file name a c result
+  whole_judged samples out map_file (Ok verdict) judged = (judged.0, whole_read (Ok judged.0) judged.1, judged.2)
+  whole_judged samples out map_file (Err refusal) judged = whole_read (Err refusal) judged
 
 -- Where the records stand, by what they leave.
 

@@ -144,6 +144,3 @@ long_16 xs = fields_long field_16 2 (λ n. refl) xs
 
 pub long_32 : (xs : List ℕ) → length (fields_32 xs) ≡ 4 * length xs
 long_32 xs = fields_long field_32 4 (λ n. refl) xs
-
-pub long_64 : (xs : List ℕ) → length (fields_64 xs) ≡ 8 * length xs
-long_64 xs = fields_long field_64 8 (λ n. refl) xs

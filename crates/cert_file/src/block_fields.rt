@@ -1,10 +1,9 @@
 // The fields of a block record, as they are read.
-ghost use Rattle.std.specs.Prelude.{◌≡◌, ◌≤◌, ◌<◌, ◌+◌, ◌*◌, ◌^◌, IfOk, IfErr, OnOk};
-ghost use Rattle.std.specs.Int.{w8, w16};
+ghost use Rattle.std.specs.Prelude.{◌≡◌, ◌≤◌, ◌<◌, ◌+◌, ◌*◌, ◌^◌, IfOk, IfErr, IfSome, OnOk};
 ghost use Rattle.shelf_traits.specs.Files.{OnlyReadsFile};
 ghost use Rattle.file_bytes.specs.Reading.{Follows};
-ghost use Rattle.source_map.specs.Readings.{IsRefusal, ReadsFrom, number_read};
-ghost use Rattle.cert_file.specs.BlockReading.{IsStartAfter, IsBoundaryRead, IsSpot, block_size_read, block_start_read, boundary_read, cols_rule, flags_rule, spot_read, spot_rule};
+ghost use Rattle.source_map.specs.Readings.{IsRefusal, ReadsFrom};
+ghost use Rattle.cert_file.specs.BlockReading.{IsStartAfter, IsBoundaryRead, IsSpot, block_size_read, block_start_read, cols_rule, flags_rule, side_read, spot_read, spot_rule};
 ghost use Rattle.cert_file.specs.CutReading.{IsBoxAfter};
 ghost use Rattle.limits.specs.declared.bounds.TheConstants.{MOST_BOX_CELLS};
 
@@ -100,22 +99,6 @@ fn read_block_size<S: Shelf>(
     lawful_box(before, w, h, 1)
 }
 
-// Reads flags.
-fn read_flags<S: Shelf>(file: &mut FileReader, shelf: &mut S, name: &str) -> Result<u8, ReadError>
-    requires follows { Follows name.now (S.state shelf.old) file.old }
-    requires room { file.old.at + 1 < 2 ^ 63 }
-    ensures answer { ReadsFrom ⊥ name.now file.old.at (S.state shelf.old) (S.state shelf.new)
-        file.new (number_read w8 flags_rule) result }
-    ensures place { OnOk result (file.new.at ≡ file.old.at + 1) }
-    ensures reads { OnlyReadsFile name.now (S.state shelf.old) (S.state shelf.new) }
-{
-    let at = file.place();
-    match file.u8(shelf, name) {
-        Ok(n) => lawful_flags(n, at),
-        Err(error) => Err(error),
-    }
-}
-
 // Reads what a block record begins with, after boxes of so many cells.
 pub(crate) fn read_block_start<S: Shelf>(
     file: &mut FileReader,
@@ -135,7 +118,9 @@ pub(crate) fn read_block_start<S: Shelf>(
     let corner = read_spot(file, shelf, name)?;
     let size = read_block_size(file, before, shelf, name)?;
     let from = read_spot(file, shelf, name)?;
-    let flags = read_flags(file, shelf, name)?;
+    let at = file.place();
+    let n = file.u8(shelf, name)?;
+    let flags = lawful_flags(n, at)?;
     let rect = Box3 { corner, size };
     Ok(BlockStart {
         placement: Placement { rect, from },
@@ -143,52 +128,37 @@ pub(crate) fn read_block_start<S: Shelf>(
     })
 }
 
-// Reads the columns of a strip, from 1 to so many.
-fn read_cols<S: Shelf>(
-    file: &mut FileReader,
-    most: u32,
-    shelf: &mut S,
-    name: &str,
-) -> Result<u16, ReadError>
-    requires follows { Follows name.now (S.state shelf.old) file.old }
-    requires room { file.old.at + 2 < 2 ^ 63 }
-    ensures answer { ReadsFrom ⊥ name.now file.old.at (S.state shelf.old) (S.state shelf.new)
-        file.new (number_read w16 (cols_rule most)) result }
-    ensures within { IfOk result (λ n. (1 ≤ n) × (n ≤ most)) }
-    ensures place { OnOk result (file.new.at ≡ file.old.at + 2) }
-    ensures reads { OnlyReadsFile name.now (S.state shelf.old) (S.state shelf.new) }
-{
-    let at = file.place();
-    match file.number(shelf, name) {
-        Ok(n) => lawful_cols(n, most, at),
-        Err(error) => Err(error),
-    }
-}
-
-// Reads a boundary through a strip of so many strip rows, and of so many strip columns at most.
-pub(crate) fn read_boundary<S: Shelf>(
+// Reads the boundary on a side, if there is one, through a strip of so many strip rows, and of so many
+// strip columns at most.
+pub(crate) fn read_side<S: Shelf>(
     alloc: Global,
     file: &mut FileReader,
+    present: bool,
     rows: u32,
     most: u32,
     shelf: &mut S,
     name: &str,
-) -> Result<BoundaryRecord, ReadError>
+) -> Result<Option<BoundaryRecord>, ReadError>
     requires follows { Follows name.now (S.state shelf.old) file.old }
     requires some { 1 ≤ rows }
     requires room { file.old.at < 2 ^ 61 }
     requires few { rows * most ≤ MOST_BOX_CELLS }
     ensures answer { ReadsFrom (Unit {0}) name.now file.old.at (S.state shelf.old)
-        (S.state shelf.new) file.new (boundary_read rows most) result }
-    ensures form { IfOk result (IsBoundaryRead rows most) }
+        (S.state shelf.new) file.new (side_read present rows most) result }
+    ensures form { IfOk result (λ side. IfSome side (IsBoundaryRead rows most)) }
     ensures place { OnOk result (file.new.at ≤ file.old.at + 8 * (rows * most)) }
     ensures reads { OnlyReadsFile name.now (S.state shelf.old) (S.state shelf.new) }
 {
-    let cols = read_cols(file, most, shelf, name)?;
+    if !present {
+        return Ok(None);
+    }
+    let at = file.place();
+    let n = file.number(shelf, name)?;
+    let cols = lawful_cols(n, most, at)?;
     let path = read_list_16(alloc, file, rows as usize, shelf, name)?;
     let count = rows as usize * cols as usize;
     let sums = file.list(alloc, count, shelf, name)?;
     fit_32(&sums);
     let sums = Items::from_vec(sums);
-    Ok(BoundaryRecord { path, sums })
+    Ok(Some(BoundaryRecord { path, sums }))
 }

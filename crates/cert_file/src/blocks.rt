@@ -1,20 +1,20 @@
 // Files of block records.
-ghost use Rattle.std.specs.Prelude.{◌≡◌, ◌≤◌, ◌<◌, ◌+◌, ◌*◌, ◌^◌, All, IfOk, IfSome, OnErr, OnOk, length};
+ghost use Rattle.std.specs.Prelude.{◌≡◌, ◌≤◌, ◌<◌, ◌+◌, ◌*◌, ◌^◌, IfOk, IfSome, OnErr, OnOk};
 ghost use Rattle.shelf_traits.specs.Files.{Changes, OnlyReadsFile, OnlyWritesFile, WritesRose};
 ghost use Rattle.shelf_traits.specs.Written.{HoldsPart, HoldsText};
 ghost use Rattle.file_bytes.specs.Reading.{Follows};
 ghost use Rattle.file_bytes.specs.Writing.{Puts};
 ghost use Rattle.cells.specs.Places.{cell_count};
-ghost use Rattle.block_check.specs.Blocks.{HasColumns, block_cells};
+ghost use Rattle.block_check.specs.Blocks.{HasColumns};
 ghost use Rattle.source_map.specs.Readings.{ReadsFrom};
 ghost use Rattle.cert_file.specs.BlockForms.{IsBlockInForm, IsWideBlock, IsWideBoundary, block_form, block_start_form, boundary_form, spot_field};
-ghost use Rattle.cert_file.specs.BlockReading.{IsBoundaryRead, IsSpot, block_read, blocks_read, side_read};
+ghost use Rattle.cert_file.specs.BlockReading.{IsSpot, block_read};
 ghost use Rattle.cert_file.specs.WalkForms.{IsHeadOfVersionOne};
 ghost use Rattle.cert_file.specs.RecordFiles.{AreBlocksInForm, AreBlocksInLimits, IsRecordFile, IsRecordFileOf, ReadsToEnd, blocks_file_read, blocks_form};
 ghost use Rattle.limits.specs.declared.bounds.TheConstants.{MOST_BOX_CELLS};
 ghost use Rattle.cert_file.specs.declared.file.RecordFile.TheVariants.{Blocks};
 
-use crate::block_fields::{read_block_start, read_boundary};
+use crate::block_fields::{read_block_start, read_side};
 use crate::cut_reading::cells_of;
 use crate::file::{BLOCKS, MAGIC, RecordFile, read_count};
 use crate::number_lists::{fit_16, fit_32};
@@ -124,37 +124,6 @@ pub fn write_blocks<S: Shelf>(
     file.finish(shelf, name)
 }
 
-// Reads the boundary on a side, if there is one, through a strip of so many strip rows, and of so many
-// strip columns at most.
-fn read_side<S: Shelf>(
-    alloc: Global,
-    file: &mut FileReader,
-    present: bool,
-    rows: u32,
-    most: u32,
-    shelf: &mut S,
-    name: &str,
-) -> Result<Option<BoundaryRecord>, ReadError>
-    requires follows { Follows name.now (S.state shelf.old) file.old }
-    requires some { 1 ≤ rows }
-    requires room { file.old.at < 2 ^ 61 }
-    requires few { rows * most ≤ MOST_BOX_CELLS }
-    ensures answer { ReadsFrom (Unit {0}) name.now file.old.at (S.state shelf.old)
-        (S.state shelf.new) file.new (side_read present rows most) result }
-    ensures form { IfOk result (λ side. IfSome side (IsBoundaryRead rows most)) }
-    ensures place { OnOk result (file.new.at ≤ file.old.at + 8 * (rows * most)) }
-    ensures reads { OnlyReadsFile name.now (S.state shelf.old) (S.state shelf.new) }
-{
-    if present {
-        match read_boundary(alloc, file, rows, most, shelf, name) {
-            Ok(boundary) => Ok(Some(boundary)),
-            Err(error) => Err(error),
-        }
-    } else {
-        Ok(None)
-    }
-}
-
 /// Reads a block record, after boxes of `before` cells. Its refusals are those of `read_record_file`.
 pub fn read_block<S: Shelf>(
     alloc: Global,
@@ -187,34 +156,6 @@ pub fn read_block<S: Shelf>(
     })
 }
 
-// Reads so many block records.
-fn read_blocks<S: Shelf>(
-    alloc: Global,
-    file: &mut FileReader,
-    count: u32,
-    shelf: &mut S,
-    name: &str,
-) -> Result<Items<BlockRecord>, ReadError>
-    requires follows { Follows name.now (S.state shelf.old) file.old }
-    requires room { file.old.at < 2 ^ 32 }
-    ensures answer { ReadsFrom (Unit {0}) name.now file.old.at (S.state shelf.old)
-        (S.state shelf.new) file.new (blocks_read count) result }
-    ensures count { IfOk result (λ blocks. length blocks ≡ count) }
-    ensures form { IfOk result (All IsBlockInForm) }
-    ensures cells { IfOk result (λ blocks. block_cells blocks ≤ MOST_BOX_CELLS) }
-    ensures reads { OnlyReadsFile name.now (S.state shelf.old) (S.state shelf.new) }
-{
-    let mut blocks = Vec::new(alloc);
-    let mut before = 0;
-    for i in 0..count {
-        make_room(&mut blocks, (count - i) as usize)?;
-        let block = read_block(alloc, file, before, shelf, name)?;
-        before += cells_of(block.placement.rect.size) as u64;
-        blocks.push_reserved(block);
-    }
-    Ok(Items::from_vec(blocks))
-}
-
 // Reads block records, from after a head to the end of the file.
 pub(crate) fn read_blocks_file<S: Shelf>(
     alloc: Global,
@@ -232,7 +173,15 @@ pub(crate) fn read_blocks_file<S: Shelf>(
     ensures reads { OnlyReadsFile name.now (S.state shelf.old) (S.state shelf.new) }
 {
     let count = read_count(file, shelf, name)?;
-    let blocks = read_blocks(alloc, file, count, shelf, name)?;
+    let mut blocks = Vec::new(alloc);
+    let mut before = 0;
+    for i in 0..count {
+        make_room(&mut blocks, (count - i) as usize)?;
+        let block = read_block(alloc, file, before, shelf, name)?;
+        before += cells_of(block.placement.rect.size) as u64;
+        blocks.push_reserved(block);
+    }
     file.end(shelf, name)?;
+    let blocks = Items::from_vec(blocks);
     Ok(RecordFile::Blocks { head, blocks })
 }

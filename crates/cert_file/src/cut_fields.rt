@@ -3,7 +3,7 @@ ghost use Rattle.std.specs.Prelude.{◌≡◌, ◌≤◌, ◌<◌, ◌+◌, ◌*
 ghost use Rattle.std.specs.Int.{w16};
 ghost use Rattle.shelf_traits.specs.Files.{OnlyReadsFile};
 ghost use Rattle.file_bytes.specs.Reading.{Follows};
-ghost use Rattle.source_map.specs.MapFiles.{IsInSamples, IsShort, part_rule};
+ghost use Rattle.source_map.specs.MapFiles.{IsInSamples, IsShort};
 ghost use Rattle.source_map.specs.Readings.{IsRefusal, ReadsFrom, field_read, number_read};
 ghost use Rattle.cert_file.specs.CutReading.{IsBoxAfter, box_axis_rule, box_cells_rule, box_size_read, corner_rule, from_read, part_read};
 
@@ -11,7 +11,7 @@ use cells::{At, Size, Sizes};
 use file_bytes::FileReader;
 use limits::MOST_BOX_CELLS;
 use shelf_traits::{FormFault, ReadError, Shelf, What};
-use source_map::{Version, read_place};
+use source_map::{Version, read_part, read_place};
 
 // The refusal of a field at its place.
 pub(crate) fn form<T>(at: u64) -> Result<T, ReadError>
@@ -66,19 +66,6 @@ pub(crate) fn lawful_box(before: u64, w: u16, h: u16, f: u16) -> Result<Size, Re
             number,
             bound: MOST_BOX_CELLS,
         })
-    }
-}
-
-// The number of a sample, if there is one of that number.
-fn lawful_part(n: u16, count: u32, at: u64) -> Result<u16, ReadError>
-    ensures part { result ≡ part_rule count at n }
-    ensures within { IfOk result (λ n. (1 ≤ n) × (n ≤ count)) }
-    ensures refusal { IfErr result IsRefusal }
-{
-    if n == 0 || u32::from(n) > count {
-        form(at)
-    } else {
-        Ok(n)
     }
 }
 
@@ -148,13 +135,13 @@ pub(crate) fn read_box_size<S: Shelf>(
 }
 
 // Reads the number of a sample, of so many; in version 1 it isn't written.
-fn read_part<S: Shelf>(
+fn read_number<S: Shelf>(
     file: &mut FileReader,
     version: Version,
     count: u32,
     shelf: &mut S,
     name: &str,
-) -> Result<u16, ReadError>
+) -> Result<u32, ReadError>
     requires follows { Follows name.now (S.state shelf.old) file.old }
     requires room { file.old.at + 2 < 2 ^ 63 }
     requires some { 1 ≤ count }
@@ -166,13 +153,7 @@ fn read_part<S: Shelf>(
 {
     match version {
         Version::One => Ok(1),
-        Version::Two => {
-            let at = file.place();
-            match file.number(shelf, name) {
-                Ok(n) => lawful_part(n, count, at),
-                Err(error) => Err(error),
-            }
-        }
+        Version::Two => read_part(file, count, shelf, name),
     }
 }
 
@@ -192,8 +173,7 @@ pub(crate) fn read_from<S: Shelf>(
     ensures place { OnOk result (file.new.at ≤ file.old.at + 8) }
     ensures reads { OnlyReadsFile name.now (S.state shelf.old) (S.state shelf.new) }
 {
-    let part = read_part(file, version, samples.len(), shelf, name)?;
-    let size = samples.at(u32::from(part));
-    let p = read_place(file, size, shelf, name)?;
-    Ok(samples.stock(u32::from(part), p))
+    let part = read_number(file, version, samples.len(), shelf, name)?;
+    let p = read_place(file, samples.at(part), shelf, name)?;
+    Ok(samples.stock(part, p))
 }

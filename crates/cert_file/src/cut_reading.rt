@@ -1,24 +1,26 @@
 // Cut records, as they are read.
-ghost use Rattle.std.specs.Prelude.{◌≡◌, ◌≤◌, ◌<◌, ◌+◌, ◌*◌, ◌^◌, ℕ, All, length, Ok, IfOk, OnOk};
+ghost use Rattle.std.specs.Prelude.{◌≡◌, ◌≤◌, ◌<◌, ◌+◌, ◌*◌, ◌^◌, ℕ, length, Ok, IfOk, OnOk};
 ghost use Rattle.shelf_traits.specs.Files.{OnlyReadsFile};
 ghost use Rattle.cells.specs.Places.{cell_count};
 ghost use Rattle.boxes.specs.Pairs.{pair_count};
 ghost use Rattle.file_bytes.specs.Reading.{Follows};
+ghost use Rattle.source_map.specs.Heads.{IsHead};
 ghost use Rattle.source_map.specs.Readings.{ReadsFrom, list_read};
 ghost use Rattle.cert_file.specs.CutForms.{IsBoxSize, IsCutInForm};
-ghost use Rattle.cert_file.specs.CutReading.{cut_read, cuts_read, flow_read, flow_rule};
+ghost use Rattle.cert_file.specs.CutReading.{cut_read, flow_read, flow_rule};
+ghost use Rattle.cert_file.specs.RecordFiles.{AreCuts, IsRecordFile, ReadsToEnd, cuts_file_read};
 ghost use Rattle.limits.specs.declared.bounds.TheConstants.{MOST_BOX_CELLS};
-ghost use Rattle.cut_check.specs.Records.{box_cells};
 
 use crate::choices::read_choice;
 use crate::cut_fields::{read_box_size, read_corner, read_from};
+use crate::file::{RecordFile, read_count};
 use cells::{Box3, Size, Sizes};
 use cut_check::{CutRecord, Flow};
 use file_bytes::{FileReader, make_room};
 use items::Items;
 use map_canvas::Placement;
 use shelf_traits::{ReadError, Shelf};
-use source_map::Version;
+use source_map::{Head, Version};
 use std::alloc::Global;
 
 // A flow, of two numbers.
@@ -115,32 +117,41 @@ pub fn read_cut<S: Shelf>(
     })
 }
 
-// Reads so many cut records.
-pub(crate) fn read_cuts<S: Shelf>(
+// Reads cut records, from after a head to the end of the file.
+pub(crate) fn read_cuts_file<S: Shelf>(
     alloc: Global,
     file: &mut FileReader,
-    version: Version,
-    samples: &Sizes,
-    count: u32,
+    head: Head,
     shelf: &mut S,
     name: &str,
-) -> Result<Items<CutRecord>, ReadError>
+) -> Result<RecordFile, ReadError>
     requires follows { Follows name.now (S.state shelf.old) file.old }
-    requires room { file.old.at < 2 ^ 32 }
-    ensures answer { ReadsFrom (Unit {0}) name.now file.old.at (S.state shelf.old)
-        (S.state shelf.new) file.new (cuts_read version samples.now count) result }
-    ensures count { IfOk result (λ cuts. length cuts ≡ count) }
-    ensures form { IfOk result (All (IsCutInForm samples.now)) }
-    ensures cells { IfOk result (λ cuts. box_cells cuts ≤ MOST_BOX_CELLS) }
+    requires room { file.old.at < 2 ^ 31 }
+    requires head { IsHead head }
+    ensures answer { ReadsToEnd (Unit {0}) name.now file.old.at (S.state shelf.old)
+        (S.state shelf.new) (cuts_file_read head) result }
+    ensures form { IfOk result IsRecordFile }
+    ensures cuts { IfOk result AreCuts }
     ensures reads { OnlyReadsFile name.now (S.state shelf.old) (S.state shelf.new) }
 {
+    let count = read_count(file, shelf, name)?;
     let mut cuts = Vec::new(alloc);
     let mut before = 0;
     for i in 0..count {
         make_room(&mut cuts, (count - i) as usize)?;
-        let cut = read_cut(alloc, file, version, samples, before, shelf, name)?;
+        let cut = read_cut(
+            alloc,
+            file,
+            head.version,
+            &head.samples,
+            before,
+            shelf,
+            name,
+        )?;
         before += cells_of(cut.placement.rect.size) as u64;
         cuts.push_reserved(cut);
     }
-    Ok(Items::from_vec(cuts))
+    file.end(shelf, name)?;
+    let cuts = Items::from_vec(cuts);
+    Ok(RecordFile::Cuts { head, cuts })
 }

@@ -7,11 +7,11 @@ ghost use Rattle.file_bytes.specs.Reading.{Follows};
 ghost use Rattle.source_map.specs.Heads.{IsHead, IsKind, head_read};
 ghost use Rattle.source_map.specs.Readings.{ReadsFrom, number_read};
 ghost use Rattle.cert_file.specs.declared.file.RecordFile.TheVariants.{Cuts};
-ghost use Rattle.cert_file.specs.RecordFiles.{AreCuts, AreCutsInForm, AreCutsInLimits, IsRecordFile, IsRecordFileOf, ReadsRecordFile, ReadsRecordFileBy, ReadsToEnd, cuts_file_read, cuts_form, kinds, record_magic, version_one_cuts_read, versions};
+ghost use Rattle.cert_file.specs.RecordFiles.{AreCuts, AreCutsInForm, AreCutsInLimits, IsRecordFile, IsRecordFileOf, ReadsRecordFile, ReadsRecordFileBy, cuts_form, kinds, record_magic, version_one_cuts_read, versions};
 ghost use Rattle.cert_file.specs.Rules.{any_rule};
 
 use crate::blocks::read_blocks_file;
-use crate::cut_reading::read_cuts;
+use crate::cut_reading::read_cuts_file;
 use crate::cuts::put_cut;
 use crate::walks::read_walk_file;
 use block_check::BlockRecord;
@@ -108,29 +108,6 @@ pub fn read_count<S: Shelf>(
 {
     let n: u32 = file.number(shelf, name)?;
     Ok(n)
-}
-
-// Reads cut records, from after a head to the end of the file.
-fn read_cuts_file<S: Shelf>(
-    alloc: Global,
-    file: &mut FileReader,
-    head: Head,
-    shelf: &mut S,
-    name: &str,
-) -> Result<RecordFile, ReadError>
-    requires follows { Follows name.now (S.state shelf.old) file.old }
-    requires room { file.old.at < 2 ^ 31 }
-    requires head { IsHead head }
-    ensures answer { ReadsToEnd (Unit {0}) name.now file.old.at (S.state shelf.old)
-        (S.state shelf.new) (cuts_file_read head) result }
-    ensures form { IfOk result IsRecordFile }
-    ensures cuts { IfOk result AreCuts }
-    ensures reads { OnlyReadsFile name.now (S.state shelf.old) (S.state shelf.new) }
-{
-    let count = read_count(file, shelf, name)?;
-    let cuts = read_cuts(alloc, file, head.version, &head.samples, count, shelf, name)?;
-    file.end(shelf, name)?;
-    Ok(RecordFile::Cuts { head, cuts })
 }
 
 /// Reads the head of a record file, and the number of its kind, from the first byte on. A caller that

@@ -1,9 +1,8 @@
 // The fields of a walk record, as they are read.
 ghost use Rattle.std.specs.Prelude.{◌≡◌, ◌≤◌, ◌<◌, ◌+◌, ◌^◌, IfOk, IfErr, OnOk};
-ghost use Rattle.std.specs.Int.{w8, w16, w32};
 ghost use Rattle.shelf_traits.specs.Files.{OnlyReadsFile};
 ghost use Rattle.file_bytes.specs.Reading.{Follows};
-ghost use Rattle.source_map.specs.Readings.{IsRefusal, ReadsFrom, number_read};
+ghost use Rattle.source_map.specs.Readings.{IsRefusal, ReadsFrom};
 ghost use Rattle.cert_file.specs.WalkReading.{IsStart, frames_rule, gap_rule, length_rule, taps_rule, walk_start_read};
 
 use cells::Taps;
@@ -84,56 +83,6 @@ fn lawful_gap(n: u16, at: u64) -> Result<u32, ReadError>
     }
 }
 
-// Reads the length of a walk.
-fn read_length<S: Shelf>(file: &mut FileReader, shelf: &mut S, name: &str) -> Result<u32, ReadError>
-    requires follows { Follows name.now (S.state shelf.old) file.old }
-    requires room { file.old.at + 4 < 2 ^ 63 }
-    ensures answer { ReadsFrom ⊥ name.now file.old.at (S.state shelf.old) (S.state shelf.new)
-        file.new (number_read w32 length_rule) result }
-    ensures within { IfOk result (λ n. (1 ≤ n) × (n ≤ LONGEST_LOOP)) }
-    ensures place { OnOk result (file.new.at ≡ file.old.at + 4) }
-    ensures reads { OnlyReadsFile name.now (S.state shelf.old) (S.state shelf.new) }
-{
-    let at = file.place();
-    match file.number(shelf, name) {
-        Ok(n) => lawful_length(n, at),
-        Err(error) => Err(error),
-    }
-}
-
-// Reads a filter.
-fn read_taps<S: Shelf>(file: &mut FileReader, shelf: &mut S, name: &str) -> Result<Taps, ReadError>
-    requires follows { Follows name.now (S.state shelf.old) file.old }
-    requires room { file.old.at + 1 < 2 ^ 63 }
-    ensures answer { ReadsFrom ⊥ name.now file.old.at (S.state shelf.old) (S.state shelf.new)
-        file.new (number_read w8 taps_rule) result }
-    ensures place { OnOk result (file.new.at ≡ file.old.at + 1) }
-    ensures reads { OnlyReadsFile name.now (S.state shelf.old) (S.state shelf.new) }
-{
-    let at = file.place();
-    match file.u8(shelf, name) {
-        Ok(n) => lawful_taps(n, at),
-        Err(error) => Err(error),
-    }
-}
-
-// Reads a gap.
-fn read_gap<S: Shelf>(file: &mut FileReader, shelf: &mut S, name: &str) -> Result<u32, ReadError>
-    requires follows { Follows name.now (S.state shelf.old) file.old }
-    requires room { file.old.at + 2 < 2 ^ 63 }
-    ensures answer { ReadsFrom ⊥ name.now file.old.at (S.state shelf.old) (S.state shelf.new)
-        file.new (number_read w16 gap_rule) result }
-    ensures within { IfOk result (λ n. (1 ≤ n) × (n ≤ WIDEST_GAP)) }
-    ensures place { OnOk result (file.new.at ≡ file.old.at + 2) }
-    ensures reads { OnlyReadsFile name.now (S.state shelf.old) (S.state shelf.new) }
-{
-    let at = file.place();
-    match file.number(shelf, name) {
-        Ok(n) => lawful_gap(n, at),
-        Err(error) => Err(error),
-    }
-}
-
 // Reads what comes before the frames of a walk.
 pub(crate) fn read_walk_start<S: Shelf>(
     file: &mut FileReader,
@@ -148,8 +97,14 @@ pub(crate) fn read_walk_start<S: Shelf>(
     ensures place { OnOk result (file.new.at ≡ file.old.at + 7) }
     ensures reads { OnlyReadsFile name.now (S.state shelf.old) (S.state shelf.new) }
 {
-    let length = read_length(file, shelf, name)?;
-    let taps = read_taps(file, shelf, name)?;
-    let gap = read_gap(file, shelf, name)?;
+    let at = file.place();
+    let n = file.number(shelf, name)?;
+    let length = lawful_length(n, at)?;
+    let at = file.place();
+    let n = file.u8(shelf, name)?;
+    let taps = lawful_taps(n, at)?;
+    let at = file.place();
+    let n = file.number(shelf, name)?;
+    let gap = lawful_gap(n, at)?;
     Ok(WalkStart { length, taps, gap })
 }

@@ -1,19 +1,27 @@
-use Rattle.std.proofs.Common.{arith}
 use Rattle.std.proofs.lemmas.Grind.{common_steps}
-use Rattle.std.proofs.Common.{ℕ, List}
-use Rattle.std.proofs.lemmas.Result.{err_from_is_err_and}
+use Rattle.std.proofs.Common.{◌≡◌, ◌≤◌, ◌<◌, ◌-◌, ◌++◌, ◌∷◌, [], ◌+◌, ◌∙◌, ◌^◌, ℕ, List, length, ap, sym, subst, arith}
 use Rattle.std.specs.Int.{w32}
-use Rattle.std.specs.Prelude.{Result, Ok, Err}
+use Rattle.std.specs.Prelude.{All, Result, Ok, Err, vec_capacity, vec_len}
+use Rattle.std.proofs.lemmas.List.Elements.{All-push}
+use Rattle.std.proofs.lemmas.Result.{err_from_is_err_and}
+use Rattle.cells.specs.Places.{cell_count}
+use Rattle.limits.specs.declared.bounds.TheConstants.{MOST_BOX_CELLS}
 use Rattle.shelf_traits.specs.declared.fault.ReadError.{ReadError}
 use Rattle.shelf_traits.proofs.FileLaws.{only_reads_then}
 use Rattle.block_check.specs.declared.block.BlockRecord.{BlockRecord}
-use Rattle.source_map.specs.Readings.{number_read}
+use Rattle.block_check.specs.Blocks.{block_cells}
+use Rattle.file_bytes.proofs.ReadingLaws.{room_made}
+use Rattle.source_map.specs.Readings.{Found, ReadsFrom, number_read}
 use Rattle.source_map.proofs.FieldLaws.{lifted}
 use Rattle.source_map.specs.declared.head.Head.{Head}
 use Rattle.cert_file.specs.declared.file.RecordFile.{RecordFile}
 use Rattle.cert_file.specs.declared.file.RecordFile.TheVariants.{Blocks}
-use Rattle.cert_file.specs.BlockReading.{blocks_read}
+use Rattle.cert_file.specs.BlockForms.{IsBlockInForm}
+use Rattle.cert_file.specs.BlockReading.{block_read, blocks_read}
+use Rattle.cert_file.specs.RecordFiles.{AreBlocksInLimits, ReadsToEnd, blocks_file_read}
 use Rattle.cert_file.specs.Rules.{any_rule}
+use Rattle.cert_file.proofs.Bits.{block_cells-append}
+use Rattle.cert_file.proofs.Readings.{each_more, each_stops, place_more}
 use Rattle.cert_file.proofs.RecordReading.{chain_to_end, ends, ends_not, then_to_end, to_end_stops, value_at_end}
 use Rattle.cert_file.proofs.blocks.read_blocks_file.Goals as goal
 
@@ -33,60 +41,114 @@ returns-in_err-count-clause-answer g c =
     (to_end_stops (Unit {0}) name c.args.file.now.at (number_read w32 any_rule) (rest c.args.head) (state c.args.shelf.now) (state c.read_count.new.shelf) c.read_count.new.file e
     (lifted (Unit {0}) name c.args.file.now.at (number_read w32 any_rule) (state c.args.shelf.now) (state c.read_count.new.shelf) c.read_count.new.file (Err e) c.in_err-count.ensures.answer))
 
-pub returns-in_err-blocks-clause-answer : goal.returns-in_err-blocks-clause-answer
-returns-in_err-blocks-clause-answer g c =
+pub loop-i-init : goal.loop-i-init
+loop-i-init g c = grind (arith, common_steps)
+
+pub loop-i-preserved : goal.loop-i-preserved
+loop-i-preserved g c =
     let state = g.S.Shelf.state in
     let name = c.args.name.now in
-    let e = c.in_err-blocks.field-0.0 in
+    let start = c.read_count.new in
+    let read = block_read in
+    let block = c.in_ok-block.block in
+    let ok = c.in_ok-block.ensures {u = tt} in
+    let so = c.loop-i.invariant in
+    let all = c.push_reserved.ensures.items ∙ ap (λ items. items ++ block ∷ []) c.make_room.ensures.items in
+    record {
+      count = omega (arith, c.push_reserved.ensures.len, ap length c.make_room.ensures.items, so.count);
+      at = place_more 29 start.file.at c.loop-i.file.at c.read_block.new.file.at c.loop-i.before (cell_count block.placement.rect.size) c.cells_of.result c.cells_of.ensures so.at ok.place;
+      few = subst (λ n. c.loop-i.before + n ≤ MOST_BOX_CELLS) (sym c.cells_of.ensures) ok.cells;
+      before = (λ k. so.before k + c.cells_of.ensures k) ∙ sym (block_cells-append c.loop-i.blocks.items block) ∙ ap block_cells (sym all);
+      each = subst (All IsBlockInForm) (sym all) (All-push IsBlockInForm c.loop-i.blocks.items block so.each ok.form);
+      found = subst (λ items. Found name start.file.at (state c.read_block.new.shelf) c.read_block.new.file (blocks_read (c.loop-i.i + 1)) items) (sym all)
+          (each_more name start.file.at c.loop-i.i (λ front. read (block_cells front)) (state start.shelf) (state c.loop-i.shelf) (state c.read_block.new.shelf) c.loop-i.file c.read_block.new.file
+          c.loop-i.blocks.items block so.reads ok.reads so.found
+          (subst (λ n. Found name c.loop-i.file.at (state c.read_block.new.shelf) c.read_block.new.file (read n) block) so.before ok.answer));
+      reads = only_reads_then (state start.shelf) (state c.loop-i.shelf) (state c.read_block.new.shelf) so.reads ok.reads;
+    }
+
+pub push_reserved-requires : goal.push_reserved-requires
+push_reserved-requires g c =
+    let room = c.in_ok-make_room.ensures {u = tt} in
+    room_made (vec_len c.loop-i.blocks) (vec_len c.make_room.new.items) (vec_capacity c.loop-i.blocks) (vec_capacity c.make_room.new.items) (c.in_ok-count.count - c.loop-i.i)
+    (omega (arith, ap length room.items)) room.kept room.grown (omega (arith, c.loop-i-test.true))
+
+pub returns-in_err-block-clause-answer : goal.returns-in_err-block-clause-answer
+returns-in_err-block-clause-answer g c =
+    let state = g.S.Shelf.state in
+    let name = c.args.name.now in
+    let e = c.in_err-block.field-0.0 in
+    let start = c.read_count.new in
     let count : ℕ = c.in_ok-count.count in
     let ok0 = c.in_ok-count.ensures {u = tt} in
-    let p = err_from_is_err_and c.from_residual-in_err-blocks.result c.from_residual-in_err-blocks.ensures.1 in
+    let read = block_read in
+    let so = c.loop-i.invariant in
+    let p = err_from_is_err_and c.from_residual-in_err-block.result c.from_residual-in_err-block.ensures.1 in
     rw (p.1, p.2)
-    (then_to_end (Unit {0}) name c.args.file.now.at (number_read w32 any_rule) (rest c.args.head) (state c.args.shelf.now) (state c.read_count.new.shelf) (state c.read_blocks.new.shelf) c.read_count.new.file count (Err e)
-    ok0.reads c.in_err-blocks.ensures.reads ok0.answer
-    (to_end_stops (Unit {0}) name c.read_count.new.file.at (blocks_read count) (end c.args.head) (state c.read_count.new.shelf) (state c.read_blocks.new.shelf) c.read_blocks.new.file e c.in_err-blocks.ensures.answer))
+    (then_to_end (Unit {0}) name c.args.file.now.at (number_read w32 any_rule) (rest c.args.head) (state c.args.shelf.now) (state start.shelf) (state c.read_block.new.shelf) start.file count (Err e)
+    ok0.reads (only_reads_then (state start.shelf) (state c.loop-i.shelf) (state c.read_block.new.shelf) so.reads c.in_err-block.ensures.reads) ok0.answer
+    (to_end_stops (Unit {0}) name start.file.at (blocks_read count) (end c.args.head) (state start.shelf) (state c.read_block.new.shelf) c.read_block.new.file e
+    (each_stops (Unit {0}) name start.file.at c.loop-i.i count (λ front. read (block_cells front)) (state start.shelf) (state c.loop-i.shelf) (state c.read_block.new.shelf) c.loop-i.file c.read_block.new.file
+    c.loop-i.blocks.items e c.loop-i-test.true so.reads c.in_err-block.ensures.reads so.found
+    (subst (λ n. ReadsFrom (Unit {0}) name c.loop-i.file.at (state c.loop-i.shelf) (state c.read_block.new.shelf) c.read_block.new.file (read n) (Err e)) so.before c.in_err-block.ensures.answer))))
 
 pub returns-in_err-end-clause-answer : goal.returns-in_err-end-clause-answer
 returns-in_err-end-clause-answer g c =
     let state = g.S.Shelf.state in
     let name = c.args.name.now in
     let e = c.in_err-end.field-0.0 in
+    let start = c.read_count.new in
     let count : ℕ = c.in_ok-count.count in
     let ok0 = c.in_ok-count.ensures {u = tt} in
-    let blocks : List BlockRecord = c.in_ok-blocks.blocks in
-    let ok1 = c.in_ok-blocks.ensures {u = tt} in
+    let so = c.loop-i.invariant in
+    let blocks : List BlockRecord = c.loop-i.blocks.items in
+    let all : c.loop-i.i ≡ count = omega (arith, c.loop-i-test.false, c.loop-i.auto.i-end) in
+    let found = subst (λ n. Found name start.file.at (state c.loop-i.shelf) c.loop-i.file (blocks_read n) blocks) all so.found in
     let p = err_from_is_err_and c.from_residual-in_err-end.result c.from_residual-in_err-end.ensures.1 in
     rw (p.1, p.2)
-    (then_to_end (Unit {0}) name c.args.file.now.at (number_read w32 any_rule) (rest c.args.head) (state c.args.shelf.now) (state c.read_count.new.shelf) (state c.end.new.shelf) c.read_count.new.file count (Err e)
-    ok0.reads (only_reads_then (state c.read_count.new.shelf) (state c.read_blocks.new.shelf) (state c.end.new.shelf) ok1.reads c.in_err-end.ensures.reads) ok0.answer
-    (then_to_end (Unit {0}) name c.read_count.new.file.at (blocks_read count) (end c.args.head) (state c.read_count.new.shelf) (state c.read_blocks.new.shelf) (state c.end.new.shelf) c.read_blocks.new.file blocks (Err e)
-    ok1.reads c.in_err-end.ensures.reads ok1.answer
-    (ends_not (Unit {0}) name c.read_blocks.new.file.at (state c.read_blocks.new.shelf) (state c.end.new.shelf) (Blocks c.args.head blocks) e c.in_err-end.ensures.stops)))
+    (then_to_end (Unit {0}) name c.args.file.now.at (number_read w32 any_rule) (rest c.args.head) (state c.args.shelf.now) (state start.shelf) (state c.end.new.shelf) start.file count (Err e)
+    ok0.reads (only_reads_then (state start.shelf) (state c.loop-i.shelf) (state c.end.new.shelf) so.reads c.in_err-end.ensures.reads) ok0.answer
+    (then_to_end (Unit {0}) name start.file.at (blocks_read count) (end c.args.head) (state start.shelf) (state c.loop-i.shelf) (state c.end.new.shelf) c.loop-i.file blocks (Err e)
+    so.reads c.in_err-end.ensures.reads found
+    (ends_not (Unit {0}) name c.loop-i.file.at (state c.loop-i.shelf) (state c.end.new.shelf) (Blocks c.args.head blocks) e c.in_err-end.ensures.stops)))
 
 pub returns-clause-answer : goal.returns-clause-answer
 returns-clause-answer g c =
     let state = g.S.Shelf.state in
     let name = c.args.name.now in
+    let start = c.read_count.new in
     let count : ℕ = c.in_ok-count.count in
     let ok0 = c.in_ok-count.ensures {u = tt} in
-    let blocks : List BlockRecord = c.in_ok-blocks.blocks in
-    let ok1 = c.in_ok-blocks.ensures {u = tt} in
+    let so = c.loop-i.invariant in
+    let blocks : List BlockRecord = c.loop-i.blocks.items in
+    let all : c.loop-i.i ≡ count = omega (arith, c.loop-i-test.false, c.loop-i.auto.i-end) in
+    let found = subst (λ n. Found name start.file.at (state c.loop-i.shelf) c.loop-i.file (blocks_read n) blocks) all so.found in
     let ok2 = c.in_ok-end.ensures {u = tt} in
-    then_to_end (Unit {0}) name c.args.file.now.at (number_read w32 any_rule) (rest c.args.head) (state c.args.shelf.now) (state c.read_count.new.shelf) (state c.end.new.shelf) c.read_count.new.file count (Ok (Blocks c.args.head blocks))
-    ok0.reads (only_reads_then (state c.read_count.new.shelf) (state c.read_blocks.new.shelf) (state c.end.new.shelf) ok1.reads ok2.reads) ok0.answer
-    (then_to_end (Unit {0}) name c.read_count.new.file.at (blocks_read count) (end c.args.head) (state c.read_count.new.shelf) (state c.read_blocks.new.shelf) (state c.end.new.shelf) c.read_blocks.new.file blocks (Ok (Blocks c.args.head blocks))
-    ok1.reads ok2.reads ok1.answer
-    (ends (Unit {0}) name c.read_blocks.new.file.at (state c.read_blocks.new.shelf) (state c.end.new.shelf) (Blocks c.args.head blocks) ok2.stops))
+    subst (λ (blocks : List BlockRecord). ReadsToEnd (Unit {0}) name c.args.file.now.at (state c.args.shelf.now) (state c.end.new.shelf) (blocks_file_read c.args.head) (Ok (Blocks c.args.head blocks))) (sym c.from_vec-blocks.ensures)
+    (then_to_end (Unit {0}) name c.args.file.now.at (number_read w32 any_rule) (rest c.args.head) (state c.args.shelf.now) (state start.shelf) (state c.end.new.shelf) start.file count (Ok (Blocks c.args.head blocks))
+    ok0.reads (only_reads_then (state start.shelf) (state c.loop-i.shelf) (state c.end.new.shelf) so.reads ok2.reads) ok0.answer
+    (then_to_end (Unit {0}) name start.file.at (blocks_read count) (end c.args.head) (state start.shelf) (state c.loop-i.shelf) (state c.end.new.shelf) c.loop-i.file blocks (Ok (Blocks c.args.head blocks))
+    so.reads ok2.reads found
+    (ends (Unit {0}) name c.loop-i.file.at (state c.loop-i.shelf) (state c.end.new.shelf) (Blocks c.args.head blocks) ok2.stops)))
 
 pub returns-clause-form : goal.returns-clause-form
-returns-clause-form g c = grind (arith, common_steps)
+returns-clause-form g c =
+    let so = c.loop-i.invariant in
+    let below : length c.loop-i.blocks.items < 2 ^ 32 = omega (arith, so.count, c.loop-i-test.false, c.loop-i.auto.i-end) in
+    subst (λ (blocks : List BlockRecord). AreBlocksInLimits c.args.head blocks) (sym c.from_vec-blocks.ensures)
+    (record { form = record { head_is = c.requires.head.0; version = c.requires.head.1; count = below; each = so.each }; cells = subst (λ n. n ≤ MOST_BOX_CELLS) so.before so.few })
 
 pub returns-clause-reads : goal.returns-clause-reads
 returns-clause-reads g c =
     let state = g.S.Shelf.state in
-    only_reads_then (state c.args.shelf.now) (state c.read_count.new.shelf) (state c.end.new.shelf) (c.in_ok-count.ensures {u = tt}).reads (only_reads_then (state c.read_count.new.shelf) (state c.read_blocks.new.shelf) (state c.end.new.shelf) (c.in_ok-blocks.ensures {u = tt}).reads (c.in_ok-end.ensures {u = tt}).reads)
+    only_reads_then (state c.args.shelf.now) (state c.read_count.new.shelf) (state c.end.new.shelf) (c.in_ok-count.ensures {u = tt}).reads (only_reads_then (state c.read_count.new.shelf) (state c.loop-i.shelf) (state c.end.new.shelf) c.loop-i.invariant.reads (c.in_ok-end.ensures {u = tt}).reads)
 
 pub returns-in_err-end-clause-reads : goal.returns-in_err-end-clause-reads
 returns-in_err-end-clause-reads g c =
     let state = g.S.Shelf.state in
-    only_reads_then (state c.args.shelf.now) (state c.read_count.new.shelf) (state c.end.new.shelf) (c.in_ok-count.ensures {u = tt}).reads (only_reads_then (state c.read_count.new.shelf) (state c.read_blocks.new.shelf) (state c.end.new.shelf) (c.in_ok-blocks.ensures {u = tt}).reads c.in_err-end.ensures.reads)
+    only_reads_then (state c.args.shelf.now) (state c.read_count.new.shelf) (state c.end.new.shelf) (c.in_ok-count.ensures {u = tt}).reads (only_reads_then (state c.read_count.new.shelf) (state c.loop-i.shelf) (state c.end.new.shelf) c.loop-i.invariant.reads c.in_err-end.ensures.reads)
+
+pub returns-in_err-block-clause-reads : goal.returns-in_err-block-clause-reads
+returns-in_err-block-clause-reads g c =
+    let state = g.S.Shelf.state in
+    only_reads_then (state c.args.shelf.now) (state c.read_count.new.shelf) (state c.read_block.new.shelf) (c.in_ok-count.ensures {u = tt}).reads (only_reads_then (state c.read_count.new.shelf) (state c.loop-i.shelf) (state c.read_block.new.shelf) c.loop-i.invariant.reads c.in_err-block.ensures.reads)

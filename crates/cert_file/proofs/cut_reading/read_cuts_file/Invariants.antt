@@ -6,15 +6,15 @@ use Rattle.shelf_traits.specs.Files.{OnlyReadsFile}
 use Rattle.source_map.specs.Readings.{Found}
 use Rattle.cert_file.specs.CutForms.{IsCutInForm}
 use Rattle.cert_file.specs.CutReading.{cuts_read}
-use Rattle.cert_file.proofs.cut_reading.read_cuts.Given as goal
+use Rattle.cert_file.proofs.cut_reading.read_cuts_file.Given as goal
 
 abbrev pub invariant-loop-i : goal.invariant-loop-i
 invariant-loop-i g l = record {
   count : vec_len l.cuts ≡ l.i;
-  at : l.file.at ≤ l.fn.file.at + 34 * l.before;
+  at : l.file.at ≤ l.initial.file.at + 34 * l.before;
   few : l.before ≤ MOST_BOX_CELLS;
   before : l.before ≡ box_cells l.cuts.items;
-  each : All (IsCutInForm l.samples) l.cuts.items;
-  found : Found l.name l.fn.file.at (g.S.Shelf.state l.shelf) l.file (cuts_read l.version l.samples l.i) l.cuts.items;
-  reads : OnlyReadsFile l.name (g.S.Shelf.state l.fn.shelf) (g.S.Shelf.state l.shelf);
+  each : All (IsCutInForm l.head.samples) l.cuts.items;
+  found : Found l.name l.initial.file.at (g.S.Shelf.state l.shelf) l.file (cuts_read l.head.version l.head.samples l.i) l.cuts.items;
+  reads : OnlyReadsFile l.name (g.S.Shelf.state l.initial.shelf) (g.S.Shelf.state l.shelf);
 }

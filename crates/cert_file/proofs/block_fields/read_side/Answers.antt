@@ -133,3 +133,11 @@ pub returns-in_err-sums-clause-reads : goal.returns-in_err-sums-clause-reads
 returns-in_err-sums-clause-reads g c =
     let state = g.S.Shelf.state in
     only_reads_then (state c.args.shelf.now) (state c.number.new.shelf) (state c.list.new.shelf) (c.in_ok-n.ensures {u = tt}).reads (only_reads_then (state c.number.new.shelf) (state c.read_list_16.new.shelf) (state c.list.new.shelf) (c.in_ok-path.ensures {u = tt}).reads c.in_err-sums.ensures.reads)
+
+pub returns-clause-form : goal.returns-clause-form
+returns-clause-form g c =
+    let cols = c.in_ok-cols.cols in
+    let within = (c.in_ok-cols.ensures {u = tt}).within in
+    let sums = c.in_ok-sums.ensures {u = tt} in
+    let count : length c.from_vec-sums.result ≡ c.args.rows * cols = ap length c.from_vec-sums.ensures ∙ omega (arith, sums.count) in
+    record { path = (c.in_ok-path.ensures {u = tt}).count; columns = record { cols = cols; some = within.0; most_of = within.1; count = count } }

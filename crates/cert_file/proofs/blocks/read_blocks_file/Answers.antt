@@ -152,3 +152,8 @@ pub returns-in_err-block-clause-reads : goal.returns-in_err-block-clause-reads
 returns-in_err-block-clause-reads g c =
     let state = g.S.Shelf.state in
     only_reads_then (state c.args.shelf.now) (state c.read_count.new.shelf) (state c.read_block.new.shelf) (c.in_ok-count.ensures {u = tt}).reads (only_reads_then (state c.read_count.new.shelf) (state c.loop-i.shelf) (state c.read_block.new.shelf) c.loop-i.invariant.reads c.in_err-block.ensures.reads)
+
+pub returns-in_err-make_room-clause-reads : goal.returns-in_err-make_room-clause-reads
+returns-in_err-make_room-clause-reads g c =
+    let state = g.S.Shelf.state in
+    only_reads_then (state c.args.shelf.now) (state c.read_count.new.shelf) (state c.loop-i.shelf) (c.in_ok-count.ensures {u = tt}).reads c.loop-i.invariant.reads

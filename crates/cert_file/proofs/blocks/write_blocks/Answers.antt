@@ -6,7 +6,7 @@ use Rattle.std.specs.Prelude.{All}
 use Rattle.file_bytes.specs.Fields.{field_32}
 use Rattle.file_bytes.specs.Writing.{HasPut, Puts}
 use Rattle.file_bytes.proofs.WritingLaws.{put_none}
-use Rattle.cert_file.specs.BlockForms.{IsWideBlock, block_form}
+use Rattle.cert_file.specs.BlockForms.{IsBlockInForm, IsWideBlock, block_form}
 use Rattle.cert_file.proofs.BlocksAgain.{blocks_again}
 use Rattle.cert_file.proofs.Putting.{one_more_put}
 use Rattle.source_map.specs.Heads.{head_form}
@@ -73,3 +73,6 @@ returns-clause-failed g c =
     c.finish.ensures.failed was (blocks_form c.args.head.now c.args.blocks.now)
     (subst (λ blocks. HasPut c.args.name.now (head_form record_magic blocks_kind c.args.head.now ++ field_32 (length c.args.blocks.now) ++ flat_map block_form blocks) was (state c.loop-block.shelf) c.loop-block.file)
     (take_all c.loop-block.block-index c.args.blocks.now c.loop-block-test.false) c.loop-block.invariant.put)
+
+pub put_block-requires : goal.put_block-requires
+put_block-requires g c = subst IsBlockInForm (sym c.block-item.is) (c.requires.each c.loop-block.block-index c.block-item.result c.loop-block-test.true)

@@ -1,4 +1,5 @@
 use Rattle.std.proofs.Common.{◌≡◌, ◌+◌, ◌≤◌, ◌++◌, ◌∷◌, [], ◌∙◌, sym, ap, arith}
+use Rattle.std.specs.Prelude.{OnOk, Result, Ok, Err}
 use Rattle.std.proofs.lemmas.List.{append-nil, length-append}
 use Rattle.std.proofs.lemmas.List.Concat.{flat_map-append}
 use Rattle.std.proofs.lemmas.Result.{err_from_is_err_and}
@@ -10,6 +11,11 @@ use Rattle.cert_file.specs.CutReading.{bits_of, byte_bits, choice_rule}
 use Rattle.cert_file.proofs.Bits.{length-bits_of}
 use Rattle.cert_file.proofs.Readings.{field_lacks}
 use Rattle.cert_file.proofs.choices.read_choice.Goals as goal
+
+-- what holds in any case holds of a value
+on_ok : {T E : Type 0} (r : Result T E) (P : Type 0) → P → OnOk r P
+on_ok (Ok x) P p = p
+on_ok (Err e) P p = tt
 
 pub loop-j-preserved : goal.loop-j-preserved
 loop-j-preserved g c =
@@ -69,3 +75,11 @@ returns-clause-answer g c =
     let all : c.loop-j.j ≡ c.div_ceil-count.result = omega (arith, c.loop-j-test.false, c.loop-j.auto.j-end) in
     field_ruled (Unit {0}) c.args.name.now (choice_bytes c.args.cells) (choice_rule c.args.cells) c.args.file.now.at so.piece (state c.args.shelf.now) (state c.loop-j.shelf) c.loop-j.file c.lawful_choice.result
     (so.long ∙ all ∙ count) (c.lawful_choice.ensures.choice so.piece so.bits_are ∙ ap (λ at. choice_rule c.args.cells at so.piece) c.place-at.ensures) c.lawful_choice.ensures.refusal so.took
+
+pub returns-clause-place : goal.returns-clause-place
+returns-clause-place g c =
+    let so = c.loop-j.invariant.took in
+    let count : c.div_ceil-count.result ≡ choice_bytes c.args.cells = omega (arith, c.div_ceil-count.ensures) in
+    let all : c.loop-j.j ≡ c.div_ceil-count.result = omega (arith, c.loop-j-test.false, c.loop-j.auto.j-end) in
+    let place = so.took.at_is ∙ ap (λ n. c.args.file.now.at + n) (so.long ∙ all ∙ count) in
+    on_ok _ _ place

@@ -6,7 +6,7 @@ use Rattle.std.specs.Prelude.{All}
 use Rattle.file_bytes.specs.Fields.{field_32}
 use Rattle.file_bytes.specs.Writing.{HasPut, Puts}
 use Rattle.file_bytes.proofs.WritingLaws.{put_none}
-use Rattle.cert_file.specs.CutForms.{HasShortFlows, cut_form}
+use Rattle.cert_file.specs.CutForms.{HasShortFlows, IsCutInForm, cut_form}
 use Rattle.cert_file.proofs.CutsAgain.{cuts_again}
 use Rattle.cert_file.proofs.Putting.{one_more_put}
 use Rattle.source_map.specs.Heads.{head_form}
@@ -73,3 +73,6 @@ returns-clause-failed g c =
     c.finish.ensures.failed was (cuts_form c.args.head.now c.args.cuts.now)
     (subst (λ cuts. HasPut c.args.name.now (head_form record_magic cuts_kind c.args.head.now ++ field_32 (length c.args.cuts.now) ++ flat_map (cut_form c.args.head.now.version c.args.head.now.samples) cuts) was (state c.loop-cut.shelf) c.loop-cut.file)
     (take_all c.loop-cut.cut-index c.args.cuts.now c.loop-cut-test.false) c.loop-cut.invariant.put)
+
+pub put_cut-requires-clause-cut : goal.put_cut-requires-clause-cut
+put_cut-requires-clause-cut g c = subst (IsCutInForm c.args.head.now.samples) (sym c.cut-item.is) (c.requires.each c.loop-cut.cut-index c.cut-item.result c.loop-cut-test.true)

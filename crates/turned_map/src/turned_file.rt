@@ -1,20 +1,16 @@
 // The file of a map over turned samples, written.
-ghost use Rattle.std.specs.Prelude.{◌≡◌, ◌≤◌, ◌<◌, ◌^◌, All, IsSomeAnd, OnErr, OnOk, length};
-ghost use Rattle.std.specs.List.{flat_map};
+ghost use Rattle.std.specs.Prelude.{◌≡◌, OnErr, OnOk};
 ghost use Rattle.cells.specs.SizeLists.{AreSizes};
 ghost use Rattle.shelf_traits.specs.Files.{Changes, OnlyWritesFile, WritesRose};
 ghost use Rattle.shelf_traits.specs.Written.{HoldsPart, HoldsText};
-ghost use Rattle.file_bytes.specs.Writing.{Puts};
-ghost use Rattle.turned.specs.TurnedParts.{turned_sizes_of};
-ghost use Rattle.turned.specs.TurnedPlaces.{IsInTurned};
-ghost use Rattle.turned_map.specs.TurnedFiles.{IsTurnedMap, turned_map_form, turned_source};
+ghost use Rattle.turned_map.specs.TurnedFiles.{IsTurnedMap, turned_map_form};
 
-use cells::{At, Sizes};
+use cells::Sizes;
 use file_bytes::FileWriter;
-use map_canvas::{Entry, Map};
+use map_canvas::Map;
 use shelf_traits::{Shelf, WriteFault};
 use source_map::{Head, Version, place_bytes, put_head};
-use turned::{MOST_TURNED, turned_sizes, untouched_with};
+use turned::{turned_sizes, untouched_with};
 
 /// The version of the file of a map over turned samples.
 pub const TURNED_VERSION: u8 = 2;
@@ -47,30 +43,6 @@ fn copy_of(samples: &Sizes) -> Sizes
     copy
 }
 
-// Puts the sources of filled cells.
-fn put_sources<S: Shelf>(
-    file: &mut FileWriter,
-    sources: &[Entry],
-    samples: &Sizes,
-    sizes: &Sizes,
-    shelf: &mut S,
-    name: &str,
-)
-    requires few { length samples.now ≤ MOST_TURNED }
-    requires are { AreSizes samples.now }
-    requires sizes { sizes.now ≡ turned_sizes_of samples.now }
-    requires inside { All (λ source. IsSomeAnd source (IsInTurned samples.now)) sources.now }
-    ensures { Puts name.now (flat_map (turned_source samples.now) sources.now)
-        (S.state shelf.old) (S.state shelf.new) file.old file.new }
-{
-    for source in sources {
-        let there = untouched_with(samples, sizes, source.source().unwrap());
-        file.put_number(there.sample as u16, shelf, name);
-        file.put_number(there.turn as u16, shelf, name);
-        file.put(&place_bytes(there.at), shelf, name);
-    }
-}
-
 /// Writes the file of a full map of at most 2^20 cells, whose sources are places of the turned samples: a head
 /// with the sizes of the 1 or 2 samples as they are before, and for each cell the number of its sample, the
 /// turn, and its place in the sample, 10 bytes a cell. It takes no memory. After a `WriteFault` the shelf has
@@ -98,6 +70,11 @@ pub fn write_turned_map<S: Shelf>(
     let sizes = turned_sizes(samples);
     let mut file = FileWriter::begin(shelf, name);
     put_head(&mut file, MAGIC, TURNED_KIND, &head, shelf, name);
-    put_sources(&mut file, map.sources(), samples, &sizes, shelf, name);
+    for source in map.sources() {
+        let there = untouched_with(samples, &sizes, source.source().unwrap());
+        file.put_number(there.sample as u16, shelf, name);
+        file.put_number(there.turn as u16, shelf, name);
+        file.put(&place_bytes(there.at), shelf, name);
+    }
     file.finish(shelf, name)
 }

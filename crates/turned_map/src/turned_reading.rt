@@ -1,21 +1,19 @@
 // The file of a map over turned samples, read.
-ghost use Rattle.std.specs.Prelude.{◌≡◌, ◌≤◌, ◌<◌, ◌+◌, ◌^◌, All, IfErr, IfOk, IfSome, IsSomeAnd, OnOk, length};
+ghost use Rattle.std.specs.Prelude.{◌≡◌, ◌≤◌, ◌<◌, ◌+◌, ◌^◌, All, IfErr, IfOk, IsSomeAnd, OnOk, length};
 ghost use Rattle.shelf_traits.specs.Files.{OnlyReadsFile};
-ghost use Rattle.cells.specs.Places.{HasAxes, IsSmall, cell_count};
+ghost use Rattle.cells.specs.Places.{HasAxes, IsSmall};
 ghost use Rattle.cells.specs.SizeLists.{AreSizes};
 ghost use Rattle.file_bytes.specs.Reading.{Follows};
-ghost use Rattle.map_canvas.specs.Maps.{IsMap, IsSource};
+ghost use Rattle.map_canvas.specs.Maps.{IsMap};
 ghost use Rattle.std.specs.Int.{w8};
 ghost use Rattle.source_map.specs.MapFiles.{same_rule};
 ghost use Rattle.source_map.specs.Readings.{IsRefusal, ReadsFrom, number_read};
-ghost use Rattle.turned.specs.TurnedParts.{turned_sizes_of};
 ghost use Rattle.turned.specs.TurnedPlaces.{IsInTurned};
-ghost use Rattle.turned_map.specs.TurnedFiles.{IsTurnedFile, TurnedReadsAs, turned_body_read, turned_samples_read, turned_source_read, turned_sources_read, turned_start_read};
+ghost use Rattle.turned_map.specs.TurnedFiles.{IsTurnedFile, TurnedReadsAs, turned_body_read, turned_sources_read, turned_start_read};
 
 use crate::turned_file::{MAGIC, TURNED_KIND, TURNED_VERSION, TurnedFile};
-use cells::{At, Size, Sizes};
+use cells::{Size, Sizes};
 use file_bytes::{FileReader, make_room};
-use limits::MOST_MAP_CELLS;
 use map_canvas::{Entry, Map};
 use shelf_traits::{FormFault, ReadError, Shelf};
 use source_map::{few_cells, read_below, read_magic, read_part, read_place, read_size, read_sizes};
@@ -71,62 +69,6 @@ fn read_start<S: Shelf>(file: &mut FileReader, shelf: &mut S, name: &str) -> Res
     read_size(file, shelf, name)
 }
 
-// Reads the sizes of the samples, and tries the limit on the output's cells.
-fn read_samples<S: Shelf>(
-    file: &mut FileReader,
-    output: Size,
-    shelf: &mut S,
-    name: &str,
-) -> Result<Sizes, ReadError>
-    requires follows { Follows name.now (S.state shelf.old) file.old }
-    requires room { file.old.at + 194 < 2 ^ 63 }
-    requires axes { HasAxes output }
-    ensures answer { ReadsFrom ⊥ name.now file.old.at (S.state shelf.old) (S.state shelf.new)
-        file.new (turned_samples_read output) result }
-    ensures sizes { IfOk result AreSizes }
-    ensures few { IfOk result (λ samples. length samples ≤ MOST_TURNED) }
-    ensures small { OnOk result (IsSmall output) }
-    ensures cells { OnOk result (cell_count output ≤ MOST_MAP_CELLS) }
-    ensures place { OnOk result (file.new.at ≤ file.old.at + 26) }
-    ensures reads { OnlyReadsFile name.now (S.state shelf.old) (S.state shelf.new) }
-{
-    let count = read_part(file, MOST_TURNED, shelf, name)?;
-    let samples = read_sizes(file, count, shelf, name)?;
-    few_cells(output)?;
-    Ok(samples)
-}
-
-// Reads the source of a cell.
-fn read_source<S: Shelf>(
-    file: &mut FileReader,
-    samples: &Sizes,
-    sizes: &Sizes,
-    shelf: &mut S,
-    name: &str,
-) -> Result<Option<At>, ReadError>
-    requires follows { Follows name.now (S.state shelf.old) file.old }
-    requires room { file.old.at + 10 < 2 ^ 63 }
-    requires few { length samples.now ≤ MOST_TURNED }
-    requires are { AreSizes samples.now }
-    requires sizes { sizes.now ≡ turned_sizes_of samples.now }
-    ensures answer { ReadsFrom ⊥ name.now file.old.at (S.state shelf.old) (S.state shelf.new)
-        file.new (turned_source_read samples.now) result }
-    ensures source { IfOk result (λ source. IfSome source IsSource) }
-    ensures inside { IfOk result (λ source. IsSomeAnd source (IsInTurned samples.now)) }
-    ensures place { OnOk result (file.new.at ≡ file.old.at + 10) }
-    ensures reads { OnlyReadsFile name.now (S.state shelf.old) (S.state shelf.new) }
-{
-    let sample = read_part(file, samples.len(), shelf, name)?;
-    let turn = read_below(file, TURNS, shelf, name)?;
-    let at = read_place(file, samples.at(sample), shelf, name)?;
-    let there = Turned {
-        sample,
-        turn: u32::from(turn),
-        at,
-    };
-    Ok(Some(turned_place(samples, sizes, there)))
-}
-
 // Reads the sources of all cells of an output.
 fn read_sources<S: Shelf>(
     alloc: Global,
@@ -154,8 +96,15 @@ fn read_sources<S: Shelf>(
     let mut sources = Vec::new(alloc);
     for i in 0..count {
         make_room(&mut sources, count - i)?;
-        let source = read_source(file, samples, &sizes, shelf, name)?;
-        sources.push_reserved(Entry::new(source));
+        let sample = read_part(file, samples.len(), shelf, name)?;
+        let turn = read_below(file, TURNS, shelf, name)?;
+        let at = read_place(file, samples.at(sample), shelf, name)?;
+        let there = Turned {
+            sample,
+            turn: u32::from(turn),
+            at,
+        };
+        sources.push_reserved(Entry::new(Some(turned_place(samples, &sizes, there))));
     }
     Ok(Map::from_sources(size, sources))
 }
@@ -176,7 +125,9 @@ fn read_body<S: Shelf>(
     ensures lawful { IfOk result IsTurnedFile }
     ensures reads { OnlyReadsFile name.now (S.state shelf.old) (S.state shelf.new) }
 {
-    let samples = read_samples(file, output, shelf, name)?;
+    let count = read_part(file, MOST_TURNED, shelf, name)?;
+    let samples = read_sizes(file, count, shelf, name)?;
+    few_cells(output)?;
     let map = read_sources(alloc, file, &samples, output, shelf, name)?;
     Ok(TurnedFile { map, samples })
 }

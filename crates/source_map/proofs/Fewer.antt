@@ -11,7 +11,7 @@ use Rattle.source_map.specs.declared.head.Head.{Head}
 use Rattle.source_map.specs.declared.head.Version.{Version}
 use Rattle.source_map.specs.declared.head.Version.TheVariants.{One, Two}
 use Rattle.source_map.specs.declared.head_reading.Start.{Start}
-use Rattle.source_map.specs.Heads.{IsKind, head_read, is_kind, kind_rule, magic_rule, size_read, sizes_read, start_read, version_rule}
+use Rattle.source_map.specs.Heads.{IsKind, head_read, is_kind, kind_rule, magic_rule, size_read, sizes_read, start_read, version_number, version_rule}
 use Rattle.source_map.specs.Readings.{◌>>=◌, field_read, number_read, number_rule, piece_read}
 use Rattle.source_map.proofs.Spelled.{otherwise, passed, peel, same_first}
 use Rattle.source_map.proofs.HeadsSpelled.{head_kind, start_kind}
@@ -83,6 +83,10 @@ version_one at n x is =
     by false true is_one is_two le so = let n_is = eqb-true n 2 is_two in absurd (omega (arith, n_is, le))
     by false false is_one is_two le so = absurd (cc)
 
+pub version_alone : (version : Version) → version_number version ≤ 1 → version ≡ One
+version_alone One le = refl
+version_alone Two le = absurd (omega (arith, le))
+
 pub start_version : (magic : List ℕ) (kinds at : ℕ) (bytes : List ℕ) (s : Start) (end : ℕ) → start_read magic 1 kinds at bytes ≡ Ok (s, end) → s.version ≡ One
 start_version magic kinds at bytes s end is =
     let ver : ℕ → List ℕ → Result (Version × ℕ) ReadError = number_read w8 (version_rule 1) in
@@ -98,7 +102,7 @@ start_version magic kinds at bytes s end is =
     let its : ruled.x ≡ b.x.0 = same_first ruled.x b.x.0 number.x.1 b.x.1 ruled.two in
     sym (ap (λ (s : Start). s.version) same) ∙ sym its ∙ version_one a.x.1 (from_be_bytes w8 number.x.0) ruled.x ruled.one
 
-zero_alone : (version : Version) (kind : ℕ) → IsKind 1 version kind → kind ≡ 0
+pub zero_alone : (version : Version) (kind : ℕ) → IsKind 1 version kind → kind ≡ 0
 zero_alone One kind is = by kind (ltb-true kind 1 is)
   where
     by : (kind : ℕ) → kind < 1 → kind ≡ 0

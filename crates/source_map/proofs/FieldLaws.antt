@@ -188,3 +188,43 @@ list_stops memory name place i n read a b c r r' front error lt before after so_
     on NoMemory so = so
     on (Bad fault) so = stays (Bad fault) so
     on (Limit what number bound) so = stays (Limit what number bound) so
+
+-- a test after a reading, which gives no value
+pub test_passes : {A : Type 0} (name : List ℕ) (place : ℕ) (read : ℕ → List ℕ → Result (A × ℕ) ReadError) (test : Result (Unit {0}) ReadError) (now : ShelfState) (r : Reading) (x : A) → Ok tt ≡ test
+    → Found name place now r read x → Found name place now r (λ at bytes. read at bytes >>= λ y. test >>= λ done. Ok y) x
+test_passes name place read test now r x passes found = record {
+  follows = found.follows;
+  is = weaker name (λ bytes. read place bytes ≡ Ok (x, r.at)) (λ bytes. (read place bytes >>= λ y. test >>= λ done. Ok y) ≡ Ok (x, r.at)) now.files
+      (λ bytes is. ap (λ p. p >>= λ y. test >>= λ done. Ok y) is ∙ ap (λ t. t >>= λ done. Ok (x, r.at)) (sym passes)) found.is;
+}
+
+pub test_stops : {A : Type 0} (name : List ℕ) (place : ℕ) (read : ℕ → List ℕ → Result (A × ℕ) ReadError) (test : Result (Unit {0}) ReadError) (was now : ShelfState) (r : Reading) (x : A) (error : ReadError) → Err error ≡ test
+    → IsRefusal error → Found name place now r read x → ReadsFrom ⊥ name place was now r (λ at bytes. read at bytes >>= λ y. test >>= λ done. Ok y) (Err error)
+test_stops {A = A} name place read test was now r x error stops lawful found = by error stops lawful
+  where
+    so : (e : ReadError) → Err e ≡ test → OfFile name now.files (λ bytes. (read place bytes >>= λ y. test >>= λ done. Ok y) ≡ Err e)
+    so e stops = weaker name (λ bytes. read place bytes ≡ Ok (x, r.at)) (λ bytes. (read place bytes >>= λ y. test >>= λ done. Ok y) ≡ Err e) now.files
+        (λ bytes is. ap (λ (p : Result (A × ℕ) ReadError). p >>= λ y. test >>= λ done. Ok y) is ∙ ap (λ (t : Result (Unit {0}) ReadError). t >>= λ done. Ok (x, r.at)) (sym stops)) found.is
+
+    by : (e : ReadError) → Err e ≡ test → IsRefusal e → ReadsFrom ⊥ name place was now r (λ at bytes. read at bytes >>= λ y. test >>= λ done. Ok y) (Err e)
+    by ReadFault stops lawful = absurd lawful
+    by NoMemory stops lawful = absurd lawful
+    by (Bad fault) stops lawful = so (Bad fault) stops
+    by (Limit what number bound) stops lawful = so (Limit what number bound) stops
+
+-- what is read after a value of which the bytes alone are known
+pub after_value : {A B : Type 0} (memory : Type 0) (name : List ℕ) (place at : ℕ) (first : ℕ → List ℕ → Result (A × ℕ) ReadError) (second : A → ℕ → List ℕ → Result (B × ℕ) ReadError) (was now : ShelfState) (r : Reading)
+    (x : A) (result : Result B ReadError) → OfFile name now.files (λ bytes. first place bytes ≡ Ok (x, at)) → ReadsFrom memory name at was now r (second x) result
+    → ReadsFrom memory name place was now r (chain first second) result
+after_value {A = A} {B = B} memory name place at first second was now r x result value rest = by result rest
+  where
+    joined : (end : Result (B × ℕ) ReadError) → OfFile name now.files (λ bytes. second x at bytes ≡ end) → OfFile name now.files (λ bytes. chain first second place bytes ≡ end)
+    joined end second_is = both name (λ bytes. first place bytes ≡ Ok (x, at)) (λ bytes. second x at bytes ≡ end) (λ bytes. chain first second place bytes ≡ end) now.files
+        (λ bytes one two. ap (λ p. p >>= λ y. second y.0 y.1 bytes) one ∙ two) value second_is
+
+    by : (result : Result B ReadError) → ReadsFrom memory name at was now r (second x) result → ReadsFrom memory name place was now r (chain first second) result
+    by (Ok y) rest = record { follows = rest.follows; is = joined (Ok (y, r.at)) rest.is }
+    by (Err ReadFault) rest = rest
+    by (Err NoMemory) rest = rest
+    by (Err (Bad fault)) rest = joined (Err (Bad fault)) rest
+    by (Err (Limit what number bound)) rest = joined (Err (Limit what number bound)) rest

@@ -4,7 +4,7 @@ use Rattle.std.proofs.lemmas.Bool.{lt-ltb}
 use Rattle.std.proofs.lemmas.List.{drop-take, drop-drop, length-append, length-drop, length-take-le, take-take}
 use Rattle.std.proofs.lemmas.Nat.{from_be_bytes-to_be_bytes_2}
 use Rattle.std.specs.Int.{w16}
-use Rattle.std.specs.Prelude.{Option, Some, OnOk, Result, Ok, Err, if◌then◌else◌, unwrap_or}
+use Rattle.std.specs.Prelude.{Option, Some, Result, Ok, Err, if◌then◌else◌, unwrap_or}
 use Rattle.shelf_traits.specs.Files.{ShelfState}
 use Rattle.shelf_traits.specs.declared.fault.FormFault.TheVariants.{Form}
 use Rattle.shelf_traits.specs.declared.fault.ReadError.{ReadError}
@@ -16,11 +16,10 @@ use Rattle.cells.specs.SizeLists.{size_of_part}
 use Rattle.file_bytes.specs.Fields.{field_16}
 use Rattle.file_bytes.specs.Reading.{Follows, IsAhead, Reading, StandsAt, after_serving}
 use Rattle.file_bytes.proofs.ReadingLaws.{ahead_still, both}
-use Rattle.source_map.specs.declared.head.Version.{Version}
 use Rattle.source_map.specs.declared.head.Version.TheVariants.{One}
 use Rattle.source_map.specs.MapFiles.{below_rule, no_size, place_read, source_read}
 use Rattle.source_map.specs.Readings.{◌>>=◌, list_read, number_read, number_rule}
-use Rattle.source_map.specs.Waiting.{AreSourcesIn, Extends, ExtendsIn, PlaceWaits, ReadsMore}
+use Rattle.source_map.specs.Waiting.{Extends, ExtendsIn, PlaceWaits}
 use Rattle.source_map.proofs.FieldLaws.{field_whole, weaker}
 
 -- a part of a piece that is in the bytes
@@ -93,29 +92,4 @@ grows_found read r n front longer le grows name now start found = record {
   follows = follows_after name now r n le found.follows;
   is = both name (IsAhead r) (λ bytes. list_read read (length front) start bytes ≡ Ok (front, r.at)) (λ bytes. list_read read (length longer) start bytes ≡ Ok (longer, r.at + n)) now.files
       (λ bytes ahead is. grows start r.at bytes (record { is = ahead.waiting; within = ahead.within }) is) found.follows found.is;
-}
-
--- more sources that were read after none that waited
-pub more_after : (version : Version) (samples : List Size) (most : ℕ) (name : List ℕ) (was now : ShelfState) (r r' later : Reading) (front middle longer : List (Option At)) (result : Result (Unit {0}) ReadError) → 1 ≤ most
-    → length middle ≡ length front → r'.at ≡ r.at → Extends (source_read version samples) name was r front was r' middle → (AreSourcesIn samples front → AreSourcesIn samples middle)
-    → OnOk result (ReadsMore version samples 1 name was r' middle now later longer) → OnOk result (ReadsMore version samples most name was r front now later longer)
-more_after version samples most name was now r r' later front middle longer (Err e) some count at grows sources more = tt
-more_after version samples most name was now r r' later front middle longer (Ok x) some count at grows sources more = record {
-  some = omega (arith, more.some, count);
-  most_of = omega (arith, more.most_of, count);
-  place = omega (arith, more.place, count, at);
-  grows = λ start found. more.grows start (grows start found);
-  sources = λ are. more.sources (sources are);
-}
-
--- one source more is as many as may be
-pub more_of_one : (version : Version) (samples : List Size) (most : ℕ) (name : List ℕ) (was now : ShelfState) (r later : Reading) (front longer : List (Option At)) (result : Result (Unit {0}) ReadError) → 1 ≤ most
-    → OnOk result (ReadsMore version samples 1 name was r front now later longer) → OnOk result (ReadsMore version samples most name was r front now later longer)
-more_of_one version samples most name was now r later front longer (Err e) some more = tt
-more_of_one version samples most name was now r later front longer (Ok x) some more = record {
-  some = more.some;
-  most_of = omega (arith, more.most_of, some);
-  place = more.place;
-  grows = more.grows;
-  sources = more.sources;
 }

@@ -2,3 +2,4 @@ pub mod Readings
 pub mod Heads
 pub mod MapFiles
 pub mod Waiting
+pub mod Whole

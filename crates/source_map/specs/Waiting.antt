@@ -1,14 +1,13 @@
 -- Sources that are read from bytes which wait in the reader, for the contracts within the crate.
 -- Nobody has to trust this file. (Own.)
-use Rattle.std.specs.Prelude.{◌≡◌, ◌≤◌, ◌<◌, ◌+◌, ◌*◌, ℕ, List, length, All, Option, IfSome, IsSomeAnd, Result, Ok}
+use Rattle.std.specs.Prelude.{◌≡◌, ◌+◌, ℕ, List, length, All, Option, IfSome, IsSomeAnd, Result, Ok}
 use Rattle.shelf_traits.specs.Files.{ShelfState}
 use Rattle.shelf_traits.specs.declared.fault.ReadError.{ReadError}
 use Rattle.cells.specs.declared.place.At.{At}
 use Rattle.cells.specs.declared.place.Size.{Size}
 use Rattle.file_bytes.specs.Reading.{Reading, StandsAt}
 use Rattle.map_canvas.specs.Maps.{IsSource}
-use Rattle.source_map.specs.declared.head.Version.{Version}
-use Rattle.source_map.specs.MapFiles.{IsInSamples, place_read, source_read}
+use Rattle.source_map.specs.MapFiles.{IsInSamples, place_read}
 use Rattle.source_map.specs.Readings.{Found, list_read}
 
 -- the place whose bytes wait after so many others
@@ -37,13 +36,3 @@ Extends read name was r front now later longer =
 abbrev pub AreSourcesIn : List Size → List (Option At) → Type 0
 AreSourcesIn samples sources = All (λ source. IfSome source IsSource) sources
     × All (λ source. IsSomeAnd source (IsInSamples samples)) sources
-
--- a reader that has read the sources of cells has read more of them, up to so many
-pub record ReadsMore (version : Version) (samples : List Size) (most : ℕ) (name : List ℕ)
-    (was : ShelfState) (r : Reading) (front : List (Option At))
-    (now : ShelfState) (later : Reading) (longer : List (Option At)) : Type 0 where
-  pub some : length front < length longer
-  pub most_of : length longer ≤ length front + most
-  pub place : later.at + 8 * length front ≤ r.at + 8 * length longer
-  pub grows : Extends (source_read version samples) name was r front now later longer
-  pub sources : AreSourcesIn samples front → AreSourcesIn samples longer

@@ -5,7 +5,7 @@ ghost use Rattle.shelf_traits.specs.Files.{OnlyReadsFile};
 ghost use Rattle.cells.specs.Places.{HasAxes};
 ghost use Rattle.cells.specs.SizeLists.{AreSizes};
 ghost use Rattle.file_bytes.specs.Reading.{Follows};
-ghost use Rattle.source_map.specs.Heads.{AreSamples, IsHead, IsKind, axis_rule, head_read, kind_rule, magic_rule, size_read, sizes_read, start_read, version_rule};
+ghost use Rattle.source_map.specs.Heads.{AreSamples, IsHead, IsKind, IsVersion, axis_rule, head_read, kind_rule, magic_rule, size_read, sizes_read, start_read, version_rule};
 ghost use Rattle.source_map.specs.MapFiles.{part_rule};
 ghost use Rattle.source_map.specs.Readings.{IsRefusal, ReadsFrom, field_read, list_read, number_read};
 
@@ -40,7 +40,8 @@ fn lawful_magic(piece: [u8; 8], magic: [u8; 8], at: u64) -> Result<(), ReadError
 
 // The version of a number, if it is one of so many.
 fn lawful_version(n: u8, versions: u8, at: u64) -> Result<Version, ReadError>
-    ensures version { result ≡ version_rule versions at n }
+    ensures rule { result ≡ version_rule versions at n }
+    ensures version { IfOk result (IsVersion versions) }
     ensures refusal { IfErr result IsRefusal }
 {
     if n > versions {
@@ -132,6 +133,7 @@ fn read_version<S: Shelf>(
     requires room { file.old.at + 1 < 2 ^ 63 }
     ensures answer { ReadsFrom ⊥ name.now file.old.at (S.state shelf.old) (S.state shelf.new)
         file.new (number_read w8 (version_rule versions)) result }
+    ensures version { IfOk result (IsVersion versions) }
     ensures place { OnOk result (file.new.at ≡ file.old.at + 1) }
     ensures reads { OnlyReadsFile name.now (S.state shelf.old) (S.state shelf.new) }
 {
@@ -244,6 +246,7 @@ pub(crate) fn read_start<S: Shelf>(
     ensures answer { ReadsFrom ⊥ name.now file.old.at (S.state shelf.old) (S.state shelf.new)
         file.new (start_read magic versions kinds) result }
     ensures axes { IfOk result (λ start. HasAxes start.output) }
+    ensures version { IfOk result (λ start. IsVersion versions start.version) }
     ensures kind { IfOk result (λ start. IsKind kinds start.version start.kind) }
     ensures place { OnOk result (file.new.at ≡ file.old.at + 22) }
     ensures reads { OnlyReadsFile name.now (S.state shelf.old) (S.state shelf.new) }

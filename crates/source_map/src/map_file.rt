@@ -1,6 +1,5 @@
 // The files of maps, of all kinds and versions.
-ghost use Rattle.std.specs.Prelude.{◌≡◌, ◌<◌, ◌^◌, All, Some, IsSomeAnd, OnOk, OnErr};
-ghost use Rattle.std.specs.List.{flat_map};
+ghost use Rattle.std.specs.Prelude.{◌≡◌, ◌<◌, ◌^◌, Some, OnOk, OnErr};
 ghost use Rattle.cells.specs.SizeLists.{IsPartPlace};
 ghost use Rattle.shelf_traits.specs.Files.{Changes, WritesRose, OnlyWritesFile};
 ghost use Rattle.shelf_traits.specs.Written.{HoldsText, HoldsPart};
@@ -12,7 +11,7 @@ use crate::head::{Version, put_samples, put_size, put_start};
 use cells::{At, PartPlace, Size, Sizes};
 use file_bytes::FileWriter;
 use items::Items;
-use map_canvas::{Entry, Map};
+use map_canvas::Map;
 use shelf_traits::{Shelf, WriteFault};
 
 // What a map file begins with.
@@ -104,32 +103,6 @@ pub fn put_source<S: Shelf>(
     }
 }
 
-// Puts the sources of filled cells.
-fn put_sources<S: Shelf>(
-    file: &mut FileWriter,
-    sources: &[Entry],
-    samples: &Sizes,
-    version: Version,
-    shelf: &mut S,
-    name: &str,
-)
-    requires samples { AreSamples version samples.now }
-    requires inside { All (λ source. IsSomeAnd source (IsInSamples samples.now)) sources.now }
-    ensures { Puts name.now (flat_map (source_field version samples.now) sources.now)
-        (S.state shelf.old) (S.state shelf.new) file.old file.new }
-{
-    for source in sources {
-        put_source(
-            file,
-            source.source().unwrap(),
-            samples,
-            version,
-            shelf,
-            name,
-        );
-    }
-}
-
 /// Writes the file of a full map of at most 2^20 cells, whose sources lie inside the samples: what
 /// version and kind it is of, the sizes, and the source of each cell, 6 bytes a cell in version 1 and 8
 /// in version 2. Version 1 has one sample. It takes no memory. After a `WriteFault` the shelf has
@@ -153,7 +126,10 @@ pub fn write_cell_map<S: Shelf>(
     let mut file = FileWriter::begin(shelf, name);
     put_start(&mut file, MAGIC, 0, version, map.size(), shelf, name);
     put_samples(&mut file, version, samples, shelf, name);
-    put_sources(&mut file, map.sources(), samples, version, shelf, name);
+    for source in map.sources() {
+        let from = source.source().unwrap();
+        put_source(&mut file, from, samples, version, shelf, name);
+    }
     file.finish(shelf, name)
 }
 

@@ -1,14 +1,14 @@
 // Reading the files of maps.
-ghost use Rattle.std.specs.Prelude.{◌≡◌, ◌≤◌, ◌<◌, ◌+◌, ◌*◌, ◌^◌, IfOk, IfErr, IfSome, IsSomeAnd, OnOk, length, All};
+ghost use Rattle.std.specs.Prelude.{◌≡◌, ◌≤◌, ◌<◌, ◌+◌, ◌*◌, ◌^◌, IfOk, IfErr, IfSome, IsSomeAnd, OnOk};
 ghost use Rattle.std.specs.Int.{w16, w32};
 ghost use Rattle.shelf_traits.specs.Files.{OnlyReadsFile};
 ghost use Rattle.cells.specs.Places.{HasAxes, IsInside, IsSmall, cell_count, spot};
 ghost use Rattle.cells.specs.SizeLists.{AreSizes};
 ghost use Rattle.file_bytes.specs.Reading.{Follows};
 ghost use Rattle.map_canvas.specs.Maps.{IsSource};
-ghost use Rattle.source_map.specs.Heads.{AreSamples};
-ghost use Rattle.source_map.specs.MapFiles.{IsInSamples, IsMapFile, IsVersionOneMap, MapReadsAs, MapReadsBy, below_rule, body_read, cells_read, cells_rule, frames_read, place_read, same_rule, sample_read, samples_read, source_read, version_one_map_read};
-ghost use Rattle.source_map.specs.Readings.{IsRefusal, ReadsFrom, list_read, number_read};
+ghost use Rattle.source_map.specs.MapFiles.{IsInSamples, IsMapFile, IsVersionOneMap, MapReadsAs, MapReadsBy, below_rule, body_read, cells_read, cells_rule, frames_read, place_read, same_rule, sample_read, source_read, version_one_map_read};
+ghost use Rattle.source_map.specs.Readings.{IsRefusal, ReadsFrom, number_read};
+ghost use Rattle.source_map.specs.Whole.{whole_read};
 
 use crate::head::Version;
 use crate::head_reading::{Start, form, read_axis, read_part, read_samples, read_start};
@@ -175,30 +175,6 @@ pub(crate) fn read_source<S: Shelf>(
     }
 }
 
-// Reads the samples' sizes of a map, and tries the limit on the output's cells.
-fn read_map_samples<S: Shelf>(
-    file: &mut FileReader,
-    version: Version,
-    output: Size,
-    shelf: &mut S,
-    name: &str,
-) -> Result<Sizes, ReadError>
-    requires follows { Follows name.now (S.state shelf.old) file.old }
-    requires room { file.old.at + 194 < 2 ^ 63 }
-    requires axes { HasAxes output }
-    ensures answer { ReadsFrom ⊥ name.now file.old.at (S.state shelf.old)
-        (S.state shelf.new) file.new (samples_read version output) result }
-    ensures samples { IfOk result (AreSamples version) }
-    ensures small { OnOk result (IsSmall output) }
-    ensures few { OnOk result (cell_count output ≤ MOST_MAP_CELLS) }
-    ensures place { OnOk result (file.new.at ≤ file.old.at + 194) }
-    ensures reads { OnlyReadsFile name.now (S.state shelf.old) (S.state shelf.new) }
-{
-    let samples = read_samples(file, version, shelf, name)?;
-    few_cells(output)?;
-    Ok(samples)
-}
-
 // Reads the sample's size of a frame map.
 fn read_sample<S: Shelf>(
     file: &mut FileReader,
@@ -222,33 +198,6 @@ fn read_sample<S: Shelf>(
     Ok(Size { w, h, f })
 }
 
-// Reads so many frames of a sample.
-fn read_entries<S: Shelf>(
-    alloc: Global,
-    file: &mut FileReader,
-    count: u32,
-    bound: u32,
-    shelf: &mut S,
-    name: &str,
-) -> Result<Items<u16>, ReadError>
-    requires follows { Follows name.now (S.state shelf.old) file.old }
-    requires room { file.old.at ≤ 216 }
-    ensures answer { ReadsFrom (Unit {0}) name.now file.old.at (S.state shelf.old)
-        (S.state shelf.new) file.new
-        (list_read (number_read w16 (below_rule bound)) count) result }
-    ensures count { IfOk result (λ frames. length frames ≡ count) }
-    ensures below { IfOk result (All (λ e. e < bound)) }
-    ensures reads { OnlyReadsFile name.now (S.state shelf.old) (S.state shelf.new) }
-{
-    let mut frames = Vec::new(alloc);
-    for i in 0..count {
-        make_room(&mut frames, (count - i) as usize)?;
-        let frame = read_below(file, bound, shelf, name)?;
-        frames.push_reserved(frame);
-    }
-    Ok(Items::from_vec(frames))
-}
-
 // Reads what follows the output's size in a frame map.
 fn read_frames<S: Shelf>(
     alloc: Global,
@@ -266,11 +215,16 @@ fn read_frames<S: Shelf>(
     ensures reads { OnlyReadsFile name.now (S.state shelf.old) (S.state shelf.new) }
 {
     let sample = read_sample(file, size, shelf, name)?;
-    let frames = read_entries(alloc, file, size.f, sample.f, shelf, name)?;
+    let mut frames = Vec::new(alloc);
+    for i in 0..size.f {
+        make_room(&mut frames, (size.f - i) as usize)?;
+        let frame = read_below(file, sample.f, shelf, name)?;
+        frames.push_reserved(frame);
+    }
     Ok(MapFile::Frames {
         size,
         sample,
-        frames,
+        frames: Items::from_vec(frames),
     })
 }
 
@@ -292,7 +246,8 @@ fn read_cells<S: Shelf>(
     ensures version { IfOk result (λ value. version ≡ Version.One → IsVersionOneMap value) }
     ensures reads { OnlyReadsFile name.now (S.state shelf.old) (S.state shelf.new) }
 {
-    let samples = read_map_samples(file, version, size, shelf, name)?;
+    let samples = read_samples(file, version, shelf, name)?;
+    few_cells(size)?;
     let map = read_sources(alloc, file, version, &samples, size, shelf, name)?;
     Ok(MapFile::Cells {
         map,
@@ -315,6 +270,8 @@ fn read_body<S: Shelf>(
     ensures answer { ReadsFrom (Unit {0}) name.now file.old.at (S.state shelf.old)
         (S.state shelf.new) file.new (body_read start) result }
     ensures lawful { IfOk result IsMapFile }
+    ensures version { IfOk result (λ value. start.version ≡ Version.One → start.kind ≡ 0 →
+        IsVersionOneMap value) }
     ensures reads { OnlyReadsFile name.now (S.state shelf.old) (S.state shelf.new) }
 {
     if start.kind == 1 {
@@ -322,6 +279,26 @@ fn read_body<S: Shelf>(
     } else {
         read_cells(alloc, file, start.version, start.output, shelf, name)
     }
+}
+
+// Reads a file of a map to its end. So many versions are taken, and so many kinds of the first.
+fn read_whole<S: Shelf>(
+    alloc: Global,
+    most: u8,
+    shelf: &mut S,
+    name: &str,
+) -> Result<MapFile, ReadError>
+    ensures answer { MapReadsBy (whole_read most) name.now
+        (S.state shelf.old) (S.state shelf.new) result }
+    ensures lawful { IfOk result IsMapFile }
+    ensures version { most ≡ 1 → IfOk result IsVersionOneMap }
+    ensures reads { OnlyReadsFile name.now (S.state shelf.old) (S.state shelf.new) }
+{
+    let mut file = FileReader::new();
+    let start = read_start(&mut file, MAGIC, most, most, shelf, name)?;
+    let value = read_body(alloc, &mut file, start, shelf, name)?;
+    file.end(shelf, name)?;
+    Ok(value)
 }
 
 /// Reads a map from the named file, of either kind and version, to the file's end. It takes memory as
@@ -337,11 +314,7 @@ pub fn read_map<S: Shelf>(alloc: Global, shelf: &mut S, name: &str) -> Result<Ma
     ensures lawful { IfOk result IsMapFile }
     ensures reads { OnlyReadsFile name.now (S.state shelf.old) (S.state shelf.new) }
 {
-    let mut file = FileReader::new();
-    let start = read_start(&mut file, MAGIC, 2, 2, shelf, name)?;
-    let value = read_body(alloc, &mut file, start, shelf, name)?;
-    file.end(shelf, name)?;
-    Ok(value)
+    read_whole(alloc, 2, shelf, name)
 }
 
 /// Reads a cell map of version 1 from the named file, to the file's end: as `read_map` does, but every
@@ -357,9 +330,5 @@ pub fn read_version_one_map<S: Shelf>(
     ensures version { IfOk result IsVersionOneMap }
     ensures reads { OnlyReadsFile name.now (S.state shelf.old) (S.state shelf.new) }
 {
-    let mut file = FileReader::new();
-    let start = read_start(&mut file, MAGIC, 1, 1, shelf, name)?;
-    let value = read_cells(alloc, &mut file, Version::One, start.output, shelf, name)?;
-    file.end(shelf, name)?;
-    Ok(value)
+    read_whole(alloc, 1, shelf, name)
 }

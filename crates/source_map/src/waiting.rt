@@ -4,10 +4,11 @@ ghost use Rattle.shelf_traits.specs.Files.{ShelfState};
 ghost use Rattle.cells.specs.Places.{IsInside};
 ghost use Rattle.cells.specs.SizeLists.{AreSizes};
 ghost use Rattle.file_bytes.specs.Reading.{Follows};
-ghost use Rattle.source_map.specs.declared.head.Version.TheVariants as version;
+ghost use Rattle.source_map.specs.declared.head.Version.TheVariants as versions;
 ghost use Rattle.source_map.specs.MapFiles.{source_read};
 ghost use Rattle.source_map.specs.Waiting.{AreSourcesIn, Extends, ExtendsIn, PlaceWaits};
 
+use crate::head::Version;
 use crate::map_reading::place_at;
 use cells::{At, Size, Sizes};
 use file_bytes::{Field, FileReader};
@@ -39,7 +40,7 @@ fn take_places(waiting: &[u8], samples: &Sizes, most: usize, sources: &mut Vec<E
     ensures most { result ≤ most }
     ensures count { vec_len sources.new ≡ vec_len sources.old + result }
     ensures capacity { vec_capacity sources.new ≡ vec_capacity sources.old }
-    ensures grows { ExtendsIn (source_read version.One samples.now) waiting.now (6 * result)
+    ensures grows { ExtendsIn (source_read versions.One samples.now) waiting.now (6 * result)
         sources.old.items sources.new.items }
     ensures sources { AreSourcesIn samples.now sources.old.items →
         AreSourcesIn samples.now sources.new.items }
@@ -58,6 +59,7 @@ fn take_places(waiting: &[u8], samples: &Sizes, most: usize, sources: &mut Vec<E
 /// for them, and no more than are missing. It tells how many they are, and takes no memory.
 pub(crate) fn take_sources(
     file: &mut FileReader,
+    version: Version,
     samples: &Sizes,
     sources: &mut Vec<Entry>,
     missing: usize,
@@ -71,11 +73,14 @@ pub(crate) fn take_sources(
     ensures follows { (name : List ℕ) (now : ShelfState) →
         Follows name now file.old → Follows name now file.new }
     ensures grows { (name : List ℕ) (now : ShelfState) →
-        Extends (source_read version.One samples.now)
+        Extends (source_read version samples.now)
         name now file.old sources.old.items now file.new sources.new.items }
     ensures sources { AreSourcesIn samples.now sources.old.items →
         AreSourcesIn samples.now sources.new.items }
 {
+    if let Version::Two = version {
+        return 0;
+    }
     let room = sources.capacity() - sources.len();
     let waiting = file.waiting();
     let most = (waiting.len() / 6).min(room).min(missing);

@@ -12,4 +12,4 @@ returns-in-Err-clause-answer g c =
 pub returns-in-Ok-clause-answer : goal.returns-in-Ok-clause-answer
 returns-in-Ok-clause-answer g c =
     number_8 ⊥ c.args.name.now (version_rule c.args.versions) c.args.file.now.at c.in-Ok.n (g.S.Shelf.state c.args.shelf.now) (g.S.Shelf.state c.u8.new.shelf) c.u8.new.self c.lawful_version.result
-    (c.lawful_version.ensures.version ∙ ap (λ at. version_rule c.args.versions at c.in-Ok.n) c.place-at.ensures) c.lawful_version.ensures.refusal (c.in-Ok.ensures {u = tt}).took
+    (c.lawful_version.ensures.rule ∙ ap (λ at. version_rule c.args.versions at c.in-Ok.n) c.place-at.ensures) c.lawful_version.ensures.refusal (c.in-Ok.ensures {u = tt}).took

@@ -1,64 +1,11 @@
-use Rattle.std.proofs.Common.{subst}
-use Rattle.std.proofs.lemmas.Result.{err_from_is_err_and}
-use Rattle.std.specs.Prelude.{Ok}
-use Rattle.shelf_traits.proofs.FileLaws.{only_reads_then}
-use Rattle.file_bytes.specs.Reading.{Reading}
-use Rattle.source_map.specs.declared.head.Version.TheVariants.{One}
-use Rattle.source_map.specs.declared.head_reading.Start.{Start}
-use Rattle.source_map.specs.Heads.{start_read}
-use Rattle.source_map.specs.MapFiles.{cells_read, map_magic, version_one_value_read}
-use Rattle.source_map.specs.Readings.{Found}
-use Rattle.source_map.proofs.FieldLaws.{then_reads}
-use Rattle.source_map.proofs.WholeMaps.{read_whole, read_on}
+use Rattle.std.proofs.Common.{refl}
+use Rattle.source_map.proofs.VersionOne.{whole_one}
 use Rattle.source_map.proofs.map_reading.read_version_one_map.Goals as goal
 
 pub returns-clause-answer : goal.returns-clause-answer
 returns-clause-answer g c =
     let state = g.S.Shelf.state in
-    let name = c.args.name.now in
-    let was = state c.args.shelf.now in
-    let b = state c.read_cells.new.shelf in
-    let start = c.in_ok-start.ensures {u = tt} in
-    let value = c.in_ok-value.ensures {u = tt} in
-    read_whole name version_one_value_read was b (state c.end.new.shelf) c.read_cells.new.file c.in_ok-value.value (only_reads_then was (state c.read_start.new.shelf) b start.reads value.reads) c.end.ensures.reads
-    (subst (λ (r : Reading). Found name r.at b c.read_cells.new.file version_one_value_read c.in_ok-value.value) c.new-file.ensures
-    (then_reads (Unit {0}) name c.new-file.result.at (start_read map_magic 1 1) (λ (start : Start). cells_read One start.output) was (state c.read_start.new.shelf) b c.read_start.new.file c.read_cells.new.file c.in_ok-start.start (Ok c.in_ok-value.value)
-    start.reads value.reads start.answer value.answer))
-    (c.in_ok-end.ensures {u = tt}).stops
+    whole_one c.args.name.now (state c.args.shelf.now) (state c.read_whole.new.shelf) c.read_whole.result c.read_whole.ensures.answer
 
-pub returns-in_err-end-clause-answer : goal.returns-in_err-end-clause-answer
-returns-in_err-end-clause-answer g c =
-    let state = g.S.Shelf.state in
-    let name = c.args.name.now in
-    let was = state c.args.shelf.now in
-    let b = state c.read_cells.new.shelf in
-    let start = c.in_ok-start.ensures {u = tt} in
-    let value = c.in_ok-value.ensures {u = tt} in
-    let e = c.in_err-end.field-0.0 in
-    let p = err_from_is_err_and c.from_residual-in_err-end.result c.from_residual-in_err-end.ensures.1 in
-    rw (p.1, p.2)
-    (read_on name version_one_value_read was b (state c.end.new.shelf) c.read_cells.new.file c.in_ok-value.value e (only_reads_then was (state c.read_start.new.shelf) b start.reads value.reads) c.in_err-end.ensures.reads
-    (subst (λ (r : Reading). Found name r.at b c.read_cells.new.file version_one_value_read c.in_ok-value.value) c.new-file.ensures
-    (then_reads (Unit {0}) name c.new-file.result.at (start_read map_magic 1 1) (λ (start : Start). cells_read One start.output) was (state c.read_start.new.shelf) b c.read_start.new.file c.read_cells.new.file c.in_ok-start.start (Ok c.in_ok-value.value)
-    start.reads value.reads start.answer value.answer))
-    c.in_err-end.ensures.stops)
-
-pub returns-clause-reads : goal.returns-clause-reads
-returns-clause-reads g c =
-    let state = g.S.Shelf.state in
-    let name = c.args.name.now in
-    let was = state c.args.shelf.now in
-    let b = state c.read_cells.new.shelf in
-    let start = c.in_ok-start.ensures {u = tt} in
-    let value = c.in_ok-value.ensures {u = tt} in
-    only_reads_then was b (state c.end.new.shelf) (only_reads_then was (state c.read_start.new.shelf) b start.reads value.reads) (c.in_ok-end.ensures {u = tt}).reads
-
-pub returns-in_err-end-clause-reads : goal.returns-in_err-end-clause-reads
-returns-in_err-end-clause-reads g c =
-    let state = g.S.Shelf.state in
-    let name = c.args.name.now in
-    let was = state c.args.shelf.now in
-    let b = state c.read_cells.new.shelf in
-    let start = c.in_ok-start.ensures {u = tt} in
-    let value = c.in_ok-value.ensures {u = tt} in
-    only_reads_then was b (state c.end.new.shelf) (only_reads_then was (state c.read_start.new.shelf) b start.reads value.reads) c.in_err-end.ensures.reads
+pub returns-clause-version : goal.returns-clause-version
+returns-clause-version g c = c.read_whole.ensures.version refl

@@ -1,12 +1,15 @@
 use Rattle.std.proofs.lemmas.Grind.{common_steps}
-use Rattle.std.proofs.Common.{◌≡◌, ◌+◌, [], ◌∷◌, ◌++◌, length, subst, sym, ap, ◌∙◌, arith, ℕ, List, ◌≤◌, ◌<◌}
+use Rattle.std.proofs.Common.{◌*◌, Bool, true, false, refl, ◌-◌, ◌/◌, ◌≡◌, ◌+◌, [], ◌∷◌, ◌++◌, length, subst, sym, ap, ◌∙◌, arith, ℕ, List, ◌≤◌, ◌<◌}
+use Rattle.std.proofs.lemmas.Bool.{ltb-true, ltb-false}
 use Rattle.std.proofs.lemmas.List.Elements.{All-push}
 use Rattle.std.proofs.lemmas.Result.{err_from_is_err_and}
-use Rattle.std.specs.Prelude.{Option, Err, All, IfSome, IsSomeAnd, Some, Result, Ok, unwrap_or}
+use Rattle.std.specs.Prelude.{Option, Err, All, IfSome, IsSomeAnd, Some, Result, Ok, max, min, nat_lt, unwrap_or, vec_capacity, vec_len}
 use Rattle.shelf_traits.proofs.FileLaws.{only_reads_then, only_reads_same}
 use Rattle.cells.specs.declared.place.At.{At}
 use Rattle.cells.specs.Places.{cell_count, IsInside}
 use Rattle.map_canvas.specs.Maps.{SourceMap, IsMap, IsSource}
+use Rattle.shelf_traits.specs.Files.{OnlyReadsFile, ShelfState}
+use Rattle.file_bytes.specs.Reading.{Reading}
 use Rattle.source_map.specs.Readings.{Found, list_read, ReadsFrom, number_read}
 use Rattle.source_map.proofs.FieldLaws.{first_stops, lifted, list_more, list_stops, chain, made, then_reads}
 use Rattle.source_map.proofs.SourceLists.{map_end, sources_end}
@@ -26,6 +29,34 @@ end samples sample turn from at bytes = Ok (Some (turned_place samples (record {
 
 sized : (samples : List Size) (sample : ℕ) (size : Size) → Some size ≡ size_of_part samples sample → size ≡ sample_size samples sample
 sized samples sample size is = ap (λ o. unwrap_or o (record { w = 0; h = 0; f = 0 })) is
+
+-- a list for which room was made has room for one item more
+room_made : (len was now missing : ℕ) → (len < was → now ≡ was) → (was ≤ len → now ≡ len + min (max (len / 8) 1024) missing) → 0 < missing → len < now
+room_made len was now missing kept grown some = by (nat_lt len was) refl
+  where
+    by : (b : Bool) → nat_lt len was ≡ b → len < now
+    by true lt = let below = ltb-true len was lt in omega (arith, kept below, below)
+    by false lt = omega (arith, grown (ltb-false len was lt), some)
+
+-- the place after one entry more
+place_more : (start at one two end i : ℕ) → one ≡ at + 2 → two ≡ one + 2 → end ≡ two + 6 → at ≡ start + 10 * i → end ≡ start + 10 * (i + 1)
+place_more start at one two end i first second third so = omega arith
+
+-- an entry that was read field by field is a source
+entry_read : (name : List ℕ) (samples : List Size) (place : ℕ) (a b c d : ShelfState) (r1 r2 r3 : Reading) (count sample turn its : ℕ) (size : Size) (from p : At) → count ≡ length samples
+    → Some size ≡ size_of_part samples sample → its ≡ turn → p ≡ turned_place samples (record { sample = sample; turn = its; at = from }) → OnlyReadsFile name a b → OnlyReadsFile name b c → OnlyReadsFile name c d
+    → Found name place b r1 (number_read w16 (part_rule count)) sample → Found name r1.at c r2 (number_read w16 (below_rule 8)) turn → Found name r2.at d r3 (place_read size) from
+    → Found name place d r3 (turned_source_read samples) (Some p)
+entry_read name samples place a b c d r1 r2 r3 count sample turn its size from p all is same there one two three first second third =
+    let value : At = turned_place samples (record { sample = sample; turn = turn; at = from }) in
+    let second_on : ℕ → ℕ → List ℕ → Result (Option At × ℕ) ReadError = λ (v0 : ℕ). chain (number_read w16 (below_rule 8)) (λ (v1 : ℕ). chain (place_read (sample_size samples v0)) (end samples v0 v1)) in
+    subst (λ (v : At). Found name place d r3 (turned_source_read samples) (Some v)) (sym (there ∙ ap (λ (turn : ℕ). turned_place samples (record { sample = sample; turn = turn; at = from })) same))
+    (then_reads ⊥ name place (number_read w16 (part_rule (length samples))) second_on a b d r1 r3 sample (Ok (Some value)) one (only_reads_then b c d two three)
+    (subst (λ n. Found name place b r1 (number_read w16 (part_rule n)) sample) all first)
+    (then_reads ⊥ name r1.at (number_read w16 (below_rule 8)) (λ (v1 : ℕ). chain (place_read (sample_size samples sample)) (end samples sample v1)) b c d r2 r3 turn (Ok (Some value)) two three second
+    (then_reads ⊥ name r2.at (place_read (sample_size samples sample)) (end samples sample turn) c d d r3 r3 from (Ok (Some value)) three (only_reads_same d)
+    (subst (λ (size : Size). Found name r2.at d r3 (place_read size) from) (sized samples sample size is) third)
+    (made ⊥ name d d r3 (Some value) third.follows))))
 
 pub returns-in_err-sample-clause-answer : goal.returns-in_err-sample-clause-answer
 returns-in_err-sample-clause-answer g c =
@@ -130,39 +161,28 @@ pub loop-i-preserved : goal.loop-i-preserved
 loop-i-preserved g c =
     let state = g.S.Shelf.state in
     let name = c.args.name.now in
-    let v0 : ℕ = c.in_ok-sample.sample in
     let ok0 = c.in_ok-sample.ensures {u = tt} in
-    let v1 : ℕ = c.in_ok-turn.turn in
     let ok1 = c.in_ok-turn.ensures {u = tt} in
-    let v2 : At = c.in_ok-at.at in
     let ok2 = c.in_ok-at.ensures {u = tt} in
-    let placed = subst (λ (size : Size). ReadsFrom ⊥ name c.read_below.new.file.at (state c.read_below.new.shelf) (state c.read_place.new.shelf) c.read_place.new.file (place_read size) (Ok v2)) (sized c.args.samples.now v0 c.at.result c.at.ensures.size) ok2.answer in
-    let value : Option At = Some (turned_place c.args.samples.now (record { sample = v0; turn = v1; at = v2 })) in
     let read = turned_source_read c.args.samples.now in
     let a = state c.args.shelf.now in
     let b = state c.loop-i.shelf in
     let d = state c.read_place.new.shelf in
     let so = c.loop-i.invariant in
-    let front = c.loop-i.sources.items in
+    let front : List (Option At) = c.loop-i.sources.items in
     let source : Option At = Some c.turned_place.result in
     let IsSound : Option At → Type 0 = λ source. IfSome source IsSource in
     let IsIn : Option At → Type 0 = λ source. IsSomeAnd source (IsInTurned c.args.samples.now) in
-    let all = c.push_reserved.ensures.items ∙ (λ k. c.make_room.ensures.items k ++ c.new.ensures k ∷ []) in
-    let reads = only_reads_then b (state c.read_part.new.shelf) d ok0.reads (only_reads_then (state c.read_part.new.shelf) (state c.read_below.new.shelf) d ok1.reads ok2.reads) in
-    let found =
-    subst (λ (v : Option At). ReadsFrom ⊥ name c.loop-i.file.at (state c.loop-i.shelf) (state c.read_place.new.shelf) c.read_place.new.file (chain (number_read w16 (part_rule (length c.args.samples.now))) (λ (v0 : ℕ). chain (number_read w16 (below_rule 8)) (λ (v1 : ℕ). chain (place_read (sample_size c.args.samples.now v0)) (λ (v2 : At). end c.args.samples.now v0 v1 v2)))) (Ok v)) (sym (ap Some (c.turned_place.ensures.place ∙ ap (λ (turn : ℕ). turned_place c.args.samples.now (record { sample = v0; turn = turn; at = v2 })) c.from.ensures)))
-    (then_reads ⊥ name c.loop-i.file.at (number_read w16 (part_rule (length c.args.samples.now))) (λ (v0 : ℕ). chain (number_read w16 (below_rule 8)) (λ (v1 : ℕ). chain (place_read (sample_size c.args.samples.now v0)) (λ (v2 : At). end c.args.samples.now v0 v1 v2))) (state c.loop-i.shelf) (state c.read_part.new.shelf) (state c.read_place.new.shelf) c.read_part.new.file c.read_place.new.file v0 (Ok value)
-    ok0.reads (only_reads_then (state c.read_part.new.shelf) (state c.read_below.new.shelf) (state c.read_place.new.shelf) ok1.reads ok2.reads) (subst (λ n. ReadsFrom ⊥ name c.loop-i.file.at (state c.loop-i.shelf) (state c.read_part.new.shelf) c.read_part.new.file (number_read w16 (part_rule n)) (Ok v0)) c.len.ensures.len ok0.answer)
-    (then_reads ⊥ name c.read_part.new.file.at (number_read w16 (below_rule 8)) (λ (v1 : ℕ). chain (place_read (sample_size c.args.samples.now v0)) (λ (v2 : At). end c.args.samples.now v0 v1 v2)) (state c.read_part.new.shelf) (state c.read_below.new.shelf) (state c.read_place.new.shelf) c.read_below.new.file c.read_place.new.file v1 (Ok value)
-    ok1.reads ok2.reads ok1.answer
-    (then_reads ⊥ name c.read_below.new.file.at (place_read (sample_size c.args.samples.now v0)) (λ (v2 : At). end c.args.samples.now v0 v1 v2) (state c.read_below.new.shelf) (state c.read_place.new.shelf) (state c.read_place.new.shelf) c.read_place.new.file c.read_place.new.file v2 (Ok value)
-    ok2.reads (only_reads_same (state c.read_place.new.shelf)) placed
-    (made ⊥ name (state c.read_place.new.shelf) (state c.read_place.new.shelf) c.read_place.new.file value placed.follows)))) in
+    let all : c.push_reserved.new.self.items ≡ front ++ source ∷ [] = c.push_reserved.ensures.items ∙ (λ k. c.make_room.ensures.items k ++ c.new.ensures k ∷ []) in
+    let reads : OnlyReadsFile name b d = only_reads_then b (state c.read_part.new.shelf) d ok0.reads (only_reads_then (state c.read_part.new.shelf) (state c.read_below.new.shelf) d ok1.reads ok2.reads) in
+    let found : Found name c.loop-i.file.at d c.read_place.new.file read source = entry_read name c.args.samples.now c.loop-i.file.at b (state c.read_part.new.shelf) (state c.read_below.new.shelf) d c.read_part.new.file c.read_below.new.file c.read_place.new.file
+    c.len.result c.in_ok-sample.sample c.in_ok-turn.turn c.from.result c.at.result c.in_ok-at.at c.turned_place.result
+    c.len.ensures.len c.at.ensures.size c.from.ensures c.turned_place.ensures.place ok0.reads ok1.reads ok2.reads ok0.answer ok1.answer ok2.answer in
     record {
       found = subst (λ items. Found name c.args.file.now.at d c.read_place.new.file (list_read read (c.loop-i.i + 1)) items) (sym all)
           (list_more name c.args.file.now.at c.loop-i.i read a b d c.loop-i.file c.read_place.new.file front source so.reads reads so.found found);
       count = omega (arith, c.push_reserved.ensures.len, ap length c.make_room.ensures.items, so.count);
-      at = omega (arith, ok0.place, ok1.place, ok2.place, so.at);
+      at = place_more c.args.file.now.at c.loop-i.file.at c.read_part.new.file.at c.read_below.new.file.at c.read_place.new.file.at c.loop-i.i ok0.place ok1.place ok2.place so.at;
       sources = subst (All IsSound) (sym all) (All-push IsSound front source so.sources (turned_source_is c.args.samples.now c.turned_place.result c.requires.are c.requires.few c.turned_place.ensures.inside));
       inside = subst (All IsIn) (sym all) (All-push IsIn front source so.inside c.turned_place.ensures.inside);
       reads = only_reads_then a b d so.reads reads;
@@ -193,3 +213,9 @@ loop-i-init g c = grind (arith, common_steps)
 
 pub new-requires : goal.new-requires
 new-requires g c = turned_source_is c.args.samples.now c.turned_place.result c.requires.are c.requires.few c.turned_place.ensures.inside
+
+pub push_reserved-requires : goal.push_reserved-requires
+push_reserved-requires g c =
+    let more = room_made (vec_len c.loop-i.sources) (vec_capacity c.loop-i.sources) (vec_capacity c.make_room.new.items) (c.cells-count.result - c.loop-i.i)
+    c.make_room.ensures.kept (c.in_ok-make_room.ensures {u = tt}).grown (omega (arith, c.loop-i-test.true)) in
+    omega (arith, ap length c.make_room.ensures.items, more)

@@ -1,7 +1,7 @@
 // The scanner of a header: a machine of small steps, one for each byte.
 ghost use Rattle.std.specs.Prelude.{◌≡◌, length, IfSome};
 ghost use Rattle.shelf_traits.specs.Decimals.{capped};
-ghost use Rattle.netpbm_p6.specs.Scanning.{kind_of, opened, separated, commented, completed, ended, after_digit, step_of, IsOpenScan, HasPositiveNumbers, IsScanned, IsSoundScanned};
+ghost use Rattle.netpbm_p6.specs.Scanning.{kind_of, opened, ended, after_digit, step_of, IsOpenScan, HasPositiveNumbers, IsScanned, IsSoundScanned};
 
 /// What a byte is in a header.
 #[derive(Clone, Copy)]
@@ -88,36 +88,6 @@ fn open(numbers: Numbers, kind: ByteKind) -> Option<Scan>
     }
 }
 
-// A byte after an item of a separator.
-fn separate(numbers: Numbers, byte: u8, kind: ByteKind) -> Option<Scan>
-    ensures { result ≡ separated numbers byte kind }
-{
-    match kind {
-        ByteKind::Digit => Some(Scan::Digits(numbers, u64::from(byte.saturating_sub(b'0')))),
-        _ => open(numbers, kind),
-    }
-}
-
-// A byte in a comment.
-fn comment(numbers: Numbers, kind: ByteKind) -> Scan
-    ensures { Some result ≡ commented numbers kind }
-{
-    match kind {
-        ByteKind::LineEnd => Scan::Between(numbers),
-        _ => Scan::Comment(numbers),
-    }
-}
-
-// A byte that is to end the header.
-fn complete(width: u64, height: u64, maxval: u64, kind: ByteKind) -> Option<Scan>
-    ensures { result ≡ completed width height maxval kind }
-{
-    match kind {
-        ByteKind::Blank | ByteKind::LineEnd => Some(Scan::Whole(width, height, maxval)),
-        _ => None,
-    }
-}
-
 // A byte after a number of at least 1.
 fn end(numbers: Numbers, number: u64, kind: ByteKind) -> Option<Scan>
     ensures { result ≡ ended numbers number kind }
@@ -125,7 +95,11 @@ fn end(numbers: Numbers, number: u64, kind: ByteKind) -> Option<Scan>
     match numbers {
         Numbers::Nothing => open(Numbers::Width(number), kind),
         Numbers::Width(width) => open(Numbers::Both(width, number), kind),
-        Numbers::Both(width, height) => complete(width, height, number, kind),
+        // The byte is to end the header.
+        Numbers::Both(width, height) => match kind {
+            ByteKind::Blank | ByteKind::LineEnd => Some(Scan::Whole(width, height, number)),
+            _ => None,
+        },
     }
 }
 
@@ -164,8 +138,14 @@ fn step(scan: Scan, byte: u8) -> Option<Scan>
             None
         },
         Scan::Magic => open(Numbers::Nothing, classify(byte)),
-        Scan::Between(numbers) => separate(numbers, byte, classify(byte)),
-        Scan::Comment(numbers) => Some(comment(numbers, classify(byte))),
+        Scan::Between(numbers) => match classify(byte) {
+            ByteKind::Digit => Some(Scan::Digits(numbers, u64::from(byte.saturating_sub(b'0')))),
+            kind => open(numbers, kind),
+        },
+        Scan::Comment(numbers) => match classify(byte) {
+            ByteKind::LineEnd => Some(Scan::Between(numbers)),
+            _ => Some(Scan::Comment(numbers)),
+        },
         Scan::Digits(numbers, number) => count(numbers, number, byte, classify(byte)),
         Scan::Whole(..) => None,
     }

@@ -1,7 +1,8 @@
 -- Nodes given to cells: each with one more.
-use Rattle.std.proofs.Common.{◌≡◌, ℕ, ◌+◌, ◌<◌, List, length, get_or, [], refl, sym, ap, ◌∙◌, subst, arith, Bool, false, ⊎_elim}
+use Rattle.std.proofs.Common.{◌≡◌, ℕ, ◌+◌, ◌<◌, List, length, get_or, [], refl, sym, ap, ◌∙◌, subst, arith, Bool, true, false, ⊎_elim}
 use Rattle.std.proofs.lemmas.Bool.{cases_lt}
-use Rattle.std.specs.Prelude.{Some, IsSome, unwrap_or, option_map, slice_index_or}
+use Rattle.std.specs.Prelude.{Option, Some, None, IsSome, unwrap_or, option_map, slice_index_or}
+use mathlib.Core.Bool.{false≢true}
 use Rattle.cells.specs.Places.{index_in, minus, spot, raster_index}
 use Rattle.cells.specs.declared.place.At.{At}
 use Rattle.cells.specs.declared.place.Box3.{Box3}
@@ -9,13 +10,12 @@ use Rattle.cells.specs.Boxes.{IsInBox, cell_in}
 use Rattle.cells.proofs.BoxLaws.{plus_minus}
 use Rattle.cells.proofs.Raster.{index_of_spot}
 use Rattle.map_canvas.specs.declared.canvas.Placement.{Placement}
-use Rattle.map_canvas.specs.Maps.{SourceMap}
+use Rattle.map_canvas.specs.Maps.{SourceMap, IsFilled, map_at}
 use Rattle.costs.specs.Lawful.{is_held}
 use Rattle.boxes.proofs.Indices.{at_counts}
 use Rattle.boxes.specs.Pairs.{AreCounts, at_index}
-use Rattle.cut_graph.specs.declared.cell_nodes.Standing.{Standing}
 use Rattle.cut_graph.specs.declared.numbering.Numbering.{Numbering}
-use Rattle.cut_graph.specs.Building.{Adds, AreCellNodes, Gives, IsCellNode, IsNodeOf, IsStanding}
+use Rattle.cut_graph.specs.Building.{Adds, AreCellNodes, Gives, IsCellNode, IsNodeOf, IsStanding, Standing}
 use Rattle.cut_graph.specs.Numberings.{IsNumbering}
 use Rattle.cut_graph.proofs.Numbers.{get-end, get-left, length-end, numbering_end, numbering_none, numbering_own}
 
@@ -50,6 +50,14 @@ in_box rect x y f at = subst IsSome (sym (index_in_box rect x y f at)) refl
 pub held_by_index : (placement : Placement) (held : List Bool) (x y f : ℕ) → AreCounts placement.rect.size x y f
     → is_held placement held (cell_in placement.rect x y f) ≡ slice_index_or held (raster_index placement.rect.size x y f) false
 held_by_index placement held x y f at = ap (λ o. unwrap_or (option_map (λ i. slice_index_or held i false) o) false) (index_in_box placement.rect x y f at)
+
+-- a cell that isn't filled has no source
+pub stands_unfilled : (m : SourceMap) (p : At) (b : Bool) → (b ≡ true → IsFilled m p) × (IsFilled m p → b ≡ true) → b ≡ false → map_at m p ≡ None
+stands_unfilled m p b is isnt = none (map_at m p) (λ filled. false≢true (sym isnt ∙ is.1 filled))
+  where
+    none : (o : Option At) → (IsSome o → ⊥) → o ≡ None
+    none None empty = refl
+    none (Some from) empty = absurd (empty refl)
 
 -- no cell yet
 pub no_cells : (m : SourceMap) (placement : Placement) (held : List Bool) (cells : Numbering) → cells.nodes.items ≡ [] → cells.next ≡ 2 → AreCellNodes m placement held 0 cells

@@ -17,14 +17,12 @@ use Rattle.boxes.proofs.PairNumbers.{HasPair, find_pair, number_apart, number_be
 use Rattle.boxes.proofs.Indices.{at_counts, counts_at, index_below, same_counts}
 use Rattle.boxes.specs.Raster.{stride}
 use Rattle.boxes.specs.Pairs.{AreCounts, pair_count, pair_number, IsPair}
-use Rattle.cut_graph.specs.declared.cell_nodes.Standing.{Standing}
-use Rattle.cut_graph.specs.declared.cell_nodes.Standing.TheVariants.{Old, Unfilled, Free}
 use Rattle.cut_graph.specs.declared.numbering.Numbering.{Numbering}
 use Rattle.cut_graph.specs.declared.places.Places.{Places}
 use Rattle.cut_graph.specs.declared.piping.Piping.{Piping}
 use Rattle.map_canvas.specs.Choices.{box_index, chosen}
 use Rattle.cut_graph.specs.Cuts.{IsNetworkOf}
-use Rattle.cut_graph.specs.Building.{HasAllPipes, AreCellNodes, AreSeamNodes, IsCellNode, IsNodeOf, IsSeamNode, IsStanding, are_filled, both_filled}
+use Rattle.cut_graph.specs.Building.{HasAllPipes, AreCellNodes, AreSeamNodes, IsCellNode, IsNodeOf, IsSeamNode, IsStanding, Standing, Old, Unfilled, Free, are_filled, both_filled}
 use Rattle.cut_graph.specs.Plans.{AreSinksUnfilled}
 use Rattle.cut_graph.specs.Nodes.{AreNodes, HasSeam, IsFreeAt, StandsForCell, StandsForSeam, cell_node, seam_node}
 use Rattle.cut_graph.proofs.Laying.{behind_of}

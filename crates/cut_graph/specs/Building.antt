@@ -10,8 +10,6 @@ use Rattle.map_canvas.specs.Maps.{SourceMap, IsFilled, map_at}
 use Rattle.costs.specs.Lawful.{IsFree, StaysOld}
 use Rattle.boxes.specs.Raster.{stride}
 use Rattle.boxes.specs.Pairs.{at_index}
-use Rattle.cut_graph.specs.declared.cell_nodes.Standing.{Standing}
-use Rattle.cut_graph.specs.declared.cell_nodes.Standing.TheVariants.{Old, Unfilled, Free}
 use Rattle.cut_graph.specs.declared.numbering.Numbering.{Numbering}
 use Rattle.cut_graph.specs.declared.piping.Piping.{Piping}
 use Rattle.cut_graph.specs.Pipes.{AreFirstPipes, pipes_of}
@@ -35,6 +33,12 @@ pub record Gives (IsOne : ℕ → Type 0) (from : ℕ) (was now : Numbering) : T
   pub room : vec_capacity now.nodes ≡ vec_capacity was.nodes
 
 -- what a cell of the box is to a choice
+pub data Standing : Type 0 where
+  Old : Standing
+  Unfilled : Standing
+  Free : Standing
+
+-- whether it is that
 abbrev pub IsStanding : SourceMap → Placement → List Bool → At → Standing → Type 0
 IsStanding m placement held p Old = IsFilled m p × StaysOld m placement held p
 IsStanding m placement held p Unfilled = map_at m p ≡ None

@@ -1,31 +1,18 @@
 // The nodes of the cells of a placement's box.
-ghost use Rattle.std.specs.Prelude.{◌≡◌, ◌<◌, ◌+◌, Bool, List, IfOk, IfSome, option_copied, length, false, slice_index_or, vec_capacity, vec_len};
-ghost use Rattle.cells.specs.Boxes.{HoldsBox, cell_in};
+ghost use Rattle.std.specs.Prelude.{◌≡◌, ◌<◌, ◌+◌, IfOk, IfSome, option_copied, length, false, slice_index_or, vec_capacity};
+ghost use Rattle.cells.specs.Boxes.{HoldsBox};
 ghost use Rattle.cells.specs.Places.{IsSmall, cell_count, raster_index};
-ghost use Rattle.costs.specs.Lawful.{held_marks, is_held};
+ghost use Rattle.costs.specs.Lawful.{held_marks};
 ghost use Rattle.boxes.specs.Pairs.{AreCounts};
-ghost use Rattle.cut_graph.specs.Building.{AreCellNodes, Gives, IsNodeOf, IsStanding};
-ghost use Rattle.cut_graph.specs.Numberings.{IsNumbering};
+ghost use Rattle.cut_graph.specs.Building.{AreCellNodes};
 
 use crate::numbering::Numbering;
 use crate::places::{SINK, SOURCE};
 use boxes::Counts;
-use cells::At;
 use costs::is_kept_at;
 use limits::MOST_CELLS;
 use map_canvas::{Canvas, Placement};
 use std::alloc::{AllocError, Global};
-
-// What a cell of the box is to a choice.
-#[derive(Clone, Copy, Drop)]
-pub(crate) enum Standing {
-    // It is filled, and kept or held.
-    Old,
-    // It has nothing old.
-    Unfilled,
-    // It may stay old or become new.
-    Free,
-}
 
 // Whether the cell at an index is held.
 fn is_marked(held: Option<&[bool]>, i: usize) -> bool
@@ -38,39 +25,7 @@ fn is_marked(held: Option<&[bool]>, i: usize) -> bool
     }
 }
 
-// What a cell of the box is to a choice, by whether it is held.
-fn standing_of(canvas: &Canvas, placement: &Placement, at: Counts, p: At, held: bool) -> Standing
-    requires inside { HoldsBox canvas.now.map.size
-        placement.now.rect.corner placement.now.rect.size }
-    requires counts { AreCounts placement.now.rect.size at.x at.y at.f }
-    requires cell { p ≡ cell_in placement.now.rect at.x at.y at.f }
-    ensures { (marks : List Bool) → is_held placement.now marks p ≡ held →
-        IsStanding canvas.now.map placement.now marks p result }
-{
-    if !canvas.is_filled(p) {
-        Standing::Unfilled
-    } else if held || is_kept_at(canvas, &placement.rect, at, p) {
-        Standing::Old
-    } else {
-        Standing::Free
-    }
-}
-
-// Gives a cell a node.
-fn give(cells: &mut Numbering, standing: Standing)
-    requires room { vec_len cells.old.nodes < vec_capacity cells.old.nodes }
-    requires few { cells.old.next < u32.MAX }
-    requires numbering { IsNumbering 2 cells.old.next cells.old.nodes.items }
-    ensures { Gives (IsNodeOf standing) 2 cells.old cells.new }
-{
-    match standing {
-        Standing::Old => cells.give(SOURCE),
-        Standing::Unfilled => cells.give(SINK),
-        Standing::Free => cells.give_own(),
-    }
-}
-
-// Gives the cell at an index its node.
+// Gives the cell at an index its node, by what it is to a choice: unfilled, kept or held, or free.
 fn give_at(
     cells: &mut Numbering,
     canvas: &Canvas,
@@ -94,8 +49,13 @@ fn give_at(
 {
     let _size = canvas.map().size();
     let p = at.cell(&placement.rect);
-    let standing = standing_of(canvas, placement, at, p, is_marked(held, i));
-    give(cells, standing);
+    if !canvas.is_filled(p) {
+        cells.give(SINK);
+    } else if is_marked(held, i) || is_kept_at(canvas, &placement.rect, at, p) {
+        cells.give(SOURCE);
+    } else {
+        cells.give_own();
+    }
 }
 
 // The nodes of all cells of the box, in raster order.

@@ -6,7 +6,7 @@ ghost use Rattle.cells.specs.Places.{cell_count, plus, raster_index};
 ghost use Rattle.max_flow.specs.Networks.{empty_network};
 ghost use Rattle.max_flow.specs.declared.network.Pipe.{Pipe};
 ghost use Rattle.map_canvas.specs.Maps.{IsSource};
-ghost use Rattle.boxes.specs.Pairs.{AreCounts, pair_count, pairs_before, IsPair};
+ghost use Rattle.boxes.specs.Pairs.{AreCounts, pair_count, IsPair};
 ghost use Rattle.boxes.specs.Raster.{stride};
 ghost use Rattle.boxes.specs.Walks.{most_pairs};
 ghost use Rattle.costs.specs.Costs.{most_of_pair, seam};
@@ -70,51 +70,8 @@ fn costs_of_old(sample: &Volume, axis: Axis, a: At, b: At, new_a: At, old_new: u
     }
 }
 
-// Adds the pipes of two filled cells, of sources a and b: through the seam node as much both ways as old
-// meets new, and from there to the sink what old meets old.
-#[inline(always)]
-fn join_filled(
-    network: &mut Network,
-    sample: &Volume,
-    axis: Axis,
-    a: At,
-    b: At,
-    first: &PairCell,
-    second: &PairCell,
-    seam: u32,
-)
-    requires room { 3 ≤ network.old.spare }
-    requires first_in { first.now.node < network.old.nodes }
-    requires second_in { second.now.node < network.old.nodes }
-    requires seam_in { seam < network.old.nodes }
-    requires ends { 2 ≤ network.old.nodes }
-    requires a { IsSource a }
-    requires b { IsSource b }
-    requires first_new { IsSource first.now.after }
-    requires second_new { IsSource second.now.after }
-    requires next { second.now.after ≡ plus first.now.after (unit_step axis) }
-    ensures { network.new ≡ with_pipes network.old
-        (pair_pipes (distance sample.now) axis (Some a)
-        (Some b) first.now.after second.now.after first.now.node second.now.node seam) }
-{
-    let ahead = seam_of(sample, axis, Some(a), Some(second.after));
-    network.add_pipe(Pipe {
-        from: first.node,
-        to: seam,
-        ahead,
-        back: ahead,
-    });
-    let (back, old) = costs_of_old(sample, axis, a, b, first.after, ahead);
-    network.add_pipe(Pipe {
-        from: seam,
-        to: second.node,
-        ahead: back,
-        back,
-    });
-    join_sink(network, seam, old);
-}
-
-// Adds the pipes of a pair, and says how many they are.
+// Adds the pipes of a pair, and says how many they are. Two filled cells have three: through the seam node
+// as much both ways as old meets new, and from there to the sink what old meets old.
 #[inline(always)]
 fn join(
     network: &mut Network,
@@ -141,7 +98,21 @@ fn join(
 {
     match (first.before, second.before) {
         (Some(a), Some(b)) => {
-            join_filled(network, sample, axis, a, b, first, second, seam);
+            let ahead = seam_of(sample, axis, Some(a), Some(second.after));
+            network.add_pipe(Pipe {
+                from: first.node,
+                to: seam,
+                ahead,
+                back: ahead,
+            });
+            let (back, old) = costs_of_old(sample, axis, a, b, first.after, ahead);
+            network.add_pipe(Pipe {
+                from: seam,
+                to: second.node,
+                ahead: back,
+                back,
+            });
+            join_sink(network, seam, old);
             3
         }
         (Some(a), None) => {
@@ -230,22 +201,6 @@ impl Piping {
             }
         }
     }
-
-    // Adds the pipes of a cell, at an index, and the next ones.
-    fn add_next(&mut self, plan: &Plan, at: Counts, i: usize)
-        requires plan { IsPlan plan.now }
-        requires nodes { HasNodes plan.now self.old.network.nodes }
-        requires counts { AreCounts plan.now.placement.rect.size at.x at.y at.f }
-        requires index { raster_index plan.now.placement.rect.size at.x at.y at.f ≡ i }
-        requires so_far { IsPiped plan.now self.old.network.nodes (before plan.now i)
-            (pairs_before plan.now.placement.rect.size i) self.old }
-        ensures { IsPiped plan.now self.old.network.nodes (before plan.now (i + 1))
-            (pairs_before plan.now.placement.rect.size (i + 1)) self.new }
-    {
-        self.add_along(plan, Axis::X, at, i);
-        self.add_along(plan, Axis::Y, at, i);
-        self.add_along(plan, Axis::F, at, i);
-    }
 }
 
 // The network of a plan, of so many nodes, with the first pipes of its pairs.
@@ -260,7 +215,9 @@ pub(crate) fn lay_pipes(alloc: Global, plan: &Plan, nodes: u32) -> Result<Piping
     let size = plan.placement.rect.size;
     let mut at = Counts::first();
     for i in 0..plan.cells.len() {
-        piping.add_next(plan, at, i);
+        piping.add_along(plan, Axis::X, at, i);
+        piping.add_along(plan, Axis::Y, at, i);
+        piping.add_along(plan, Axis::F, at, i);
         at = at.next(size);
     }
     Ok(piping)

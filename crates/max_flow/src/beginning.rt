@@ -44,7 +44,7 @@ fn grow_trees(
     let limit = looks.saturating_mul(arcs.pipes() as u64);
     let mut trees = Trees::make(alloc, arcs)?;
     let is_greatest = trees.send(network.source(), network.sink(), limit);
-    Ok((trees.into_arcs(), is_greatest))
+    Ok((trees.arcs, is_greatest))
 }
 
 /// Writes what search trees leave for the arc against each pipe, where they go on from what `backward` has.
@@ -69,7 +69,7 @@ fn search_short(
     let limit = EXCESS.saturating_mul(arcs.pipes() as u64);
     let mut preflow = Preflow::make(alloc, arcs)?;
     preflow.send(network.source(), network.sink(), limit);
-    Ok(preflow.into_arcs())
+    Ok(preflow.arcs)
 }
 
 /// What the search leaves for the arc against each pipe of a network, where it goes over the shorter one and begins

@@ -59,7 +59,8 @@ const RAISED: u64 = 12;
 /// The tables of the search.
 #[derive(Drop)]
 pub struct Preflow {
-    arcs: PackedArcs,
+    /// The arcs with what they can still carry.
+    pub arcs: PackedArcs,
     nodes: Vec<Node>,
     levels: Vec<Level>,
     // The nodes whose arcs come next while heights are measured.
@@ -111,47 +112,33 @@ impl Preflow {
     // Puts a node that doesn't wait, and isn't an end, first among those of its height that do.
     #[inline(always)]
     fn wake(&mut self, number: u32) {
-        let node = self.node(number);
+        let mut node = self.node(number);
         if node.after != RESTS || number == self.from || number == self.to {
             return;
         }
         if let Some(level) = self.levels.get_mut(node.height as usize) {
-            let after = level.first;
+            node.after = level.first;
             level.first = number;
             self.highest = self.highest.max(node.height);
-            self.set_node(number, Node { after, ..node });
+            self.set_node(number, node);
         }
     }
 
-    // The highest node that waits. It waits no more.
+    // The highest node that waits. It waits no more. What stands for no node names none of the table.
     fn next_waiting(&mut self) -> Option<u32> {
         for height in (0..self.highest.wrapping_add(1)).rev() {
-            if let Some(level) = self.levels.get_mut(height as usize) {
-                let number = level.first;
-                if number != NONE {
-                    self.highest = height;
-                    let node = self.node(number);
-                    self.put_first(height, node.after);
-                    self.set_node(
-                        number,
-                        Node {
-                            after: RESTS,
-                            ..node
-                        },
-                    );
-                    return Some(number);
-                }
+            let Some(level) = self.levels.get_mut(height as usize) else {
+                continue;
+            };
+            let number = level.first;
+            if let Some(node) = self.nodes.get_mut(number as usize) {
+                level.first = node.after;
+                node.after = RESTS;
+                self.highest = height;
+                return Some(number);
             }
         }
         None
-    }
-
-    // Makes a node the first that waits at a height.
-    #[inline(always)]
-    fn put_first(&mut self, height: u32, number: u32) {
-        if let Some(level) = self.levels.get_mut(height as usize) {
-            level.first = number;
-        }
     }
 
     // Counts a node more at a height.
@@ -174,16 +161,10 @@ impl Preflow {
 
     // Gives a node its exact height, and lets it wait where it has an excess.
     fn settle(&mut self, number: u32, height: u32) {
-        let node = self.node(number);
-        let current = self.arcs.places_of(number).start;
-        self.set_node(
-            number,
-            Node {
-                height,
-                current,
-                ..node
-            },
-        );
+        let mut node = self.node(number);
+        node.height = height;
+        node.current = self.arcs.places_of(number).start;
+        self.set_node(number, node);
         self.count(height);
         let _ = self.queue.push_back(number);
         if node.excess > 0 {
@@ -220,74 +201,52 @@ impl Preflow {
     // Hands on the excess of a node over its arcs from the current one on, by as much as each that leads down can
     // carry. Returns what is left.
     fn hand_on(&mut self, number: u32) -> u32 {
-        let node = self.node(number);
-        let mut excess = node.excess;
-        let mut current = node.current;
+        let mut node = self.node(number);
         for place in node.current..self.arcs.places_of(number).end {
             self.since = self.since.wrapping_add(1);
+            node.current = place;
             let arc = self.arcs.at(place);
-            let amount = excess.min(self.arcs.room(arc.number));
-            let next = self.node(arc.head);
+            let amount = node.excess.min(self.arcs.room(arc.number));
+            let mut next = self.node(arc.head);
             if amount > 0 && next.height.wrapping_add(1) == node.height {
                 self.arcs.push(arc.number, amount);
-                let more = next.excess.wrapping_add(amount);
-                self.set_node(
-                    arc.head,
-                    Node {
-                        excess: more,
-                        ..next
-                    },
-                );
+                next.excess = next.excess.wrapping_add(amount);
+                self.set_node(arc.head, next);
                 self.wake(arc.head);
-                excess = excess.wrapping_sub(amount);
+                node.excess = node.excess.wrapping_sub(amount);
             }
-            current = place;
-            if excess == 0 {
+            if node.excess == 0 {
                 break;
             }
         }
-        self.set_node(
-            number,
-            Node {
-                excess,
-                current,
-                ..node
-            },
-        );
-        excess
+        self.set_node(number, node);
+        node.excess
     }
 
     // Raises a node to the least height from which an arc leads down, or to the top if it leaves none at its height,
     // and lets it wait again.
     fn raise(&mut self, number: u32) {
-        let node = self.node(number);
+        let mut node = self.node(number);
         let mut next = TOP;
-        let mut current = 0u32;
+        node.current = 0;
         for place in self.arcs.places_of(number) {
             let arc = self.arcs.at(place);
             let above = self.node(arc.head).height.wrapping_add(1);
             if above < next && self.arcs.room(arc.number) > 0 {
                 next = above;
-                current = place;
+                node.current = place;
             }
         }
         self.since = self.since.wrapping_add(RAISED);
-        let height = match self.levels.get_mut(node.height as usize) {
-            Some(level) => {
-                level.count = level.count.wrapping_sub(1);
-                if level.count == 0 { TOP } else { next }
+        if let Some(level) = self.levels.get_mut(node.height as usize) {
+            level.count = level.count.wrapping_sub(1);
+            if level.count == 0 {
+                next = TOP;
             }
-            None => next,
-        };
-        self.set_node(
-            number,
-            Node {
-                height,
-                current,
-                ..node
-            },
-        );
-        self.count(height);
+        }
+        node.height = next;
+        self.set_node(number, node);
+        self.count(next);
         self.wake(number);
     }
 
@@ -322,17 +281,12 @@ impl Preflow {
             let amount = self.arcs.room(arc.number);
             if amount > 0 && arc.head != source {
                 self.arcs.push(arc.number, amount);
-                let node = self.node(arc.head);
-                let excess = node.excess.wrapping_add(amount);
-                self.set_node(arc.head, Node { excess, ..node });
+                let mut node = self.node(arc.head);
+                node.excess = node.excess.wrapping_add(amount);
+                self.set_node(arc.head, node);
             }
         }
         self.drain(source, sink, limit);
         self.drain(sink, source, limit);
-    }
-
-    /// The arcs with what they can still carry. The other tables are given back.
-    pub fn into_arcs(self) -> PackedArcs {
-        self.arcs
     }
 }

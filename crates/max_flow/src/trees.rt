@@ -9,14 +9,15 @@
 use crate::packed::{Arc, PackedArcs, other_way, push_over};
 use std::alloc::{AllocError, Global};
 use std::collections::VecDeque;
-use std::ops::Range;
 
-#[derive(Clone, Copy, PartialEq, Eq)]
-enum Tree {
-    Neither,
-    Source,
-    Sink,
-}
+// The tree that a node is in. The number of a tree is the bit to turn in the number of an arc that leaves one of its
+// nodes, for the arc over which it grows. That of the other tree is the bit to turn in the number of an arc from a
+// node to its parent, for the arc over which flow goes.
+const SOURCE: u8 = 0;
+
+const SINK: u8 = 1;
+
+const NEITHER: u8 = 2;
 
 // A node of a tree hangs on its parent, over the arc to it that has this number. How far it is from the end of its
 // tree was true at its stamp. One that is farther than its number can say has the greatest distance.
@@ -26,7 +27,7 @@ struct Node {
     number: u32,
     stamp: u32,
     distance: u16,
-    tree: Tree,
+    tree: u8,
     active: bool,
 }
 
@@ -43,7 +44,7 @@ const LOOSE: Node = Node {
     number: 0,
     stamp: 0,
     distance: 0,
-    tree: Tree::Neither,
+    tree: NEITHER,
     active: false,
 };
 
@@ -65,7 +66,8 @@ const FEW: u32 = 16;
 /// The tables of the search.
 #[derive(Drop)]
 pub struct Trees {
-    arcs: PackedArcs,
+    /// The arcs with what they can still carry.
+    pub arcs: PackedArcs,
     nodes: Vec<Node>,
     // Nodes from which a tree may grow.
     active: VecDeque<u32>,
@@ -105,43 +107,16 @@ impl Trees {
         self.work = self.work.wrapping_add(u64::from(looked));
     }
 
-    fn activate(&mut self, node: u32) {
-        if let Some(entry) = self.nodes.get_mut(node as usize) {
-            if !entry.active {
-                entry.active = true;
-                let _ = self.active.push_back(node);
-            }
-        }
-    }
-
-    // The bit to turn in the number of an arc that leaves a node, for the arc over which the node's tree grows.
-    #[inline(always)]
-    fn outward(tree: Tree) -> u32 {
-        if tree == Tree::Source { 0 } else { 1 }
-    }
-
-    // The bit to turn in the number of an arc from a node to its parent, for the arc over which flow goes.
-    #[inline(always)]
-    fn inward(tree: Tree) -> u32 {
-        if tree == Tree::Source { 1 } else { 0 }
-    }
-
-    // The places of a node's arcs over which its tree grows, from a place on, or of all of them where few come before it.
-    fn places_from(&self, number: u32, from: u32) -> Range<u32> {
-        let places = self.arcs.places_of(number);
-        if from > places.start.wrapping_add(FEW) {
-            from..places.end
-        } else {
-            places
-        }
-    }
-
-    // Lets a tree grow from a node, over its arcs from a place on. Returns the place of the arc where the trees meet.
+    // Lets a tree grow from a node, over its arcs from a place on, or over all of them where few come before it. Returns
+    // the place of the arc where the trees meet.
     fn grow(&mut self, number: u32, from: u32) -> Option<u32> {
         let node = self.node(number);
         let distance = node.distance.saturating_add(1);
-        let outward = Trees::outward(node.tree);
-        let places = self.places_from(number, from);
+        let outward = u32::from(node.tree);
+        let mut places = self.arcs.places_of(number);
+        if from > places.start.wrapping_add(FEW) {
+            places.start = from;
+        }
         let mut next = places.start;
         let mut meeting = None;
         for arc in self.arcs.over(&places) {
@@ -157,7 +132,7 @@ impl Trees {
                 if other.stamp <= node.stamp && other.distance > distance {
                     other.hang(number, other_way(arc.number), distance, node.stamp);
                 }
-            } else if other.tree == Tree::Neither {
+            } else if other.tree == NEITHER {
                 other.tree = node.tree;
                 other.hang(number, other_way(arc.number), distance, node.stamp);
                 if !other.active {
@@ -175,8 +150,8 @@ impl Trees {
 
     // The least that the arcs between a node and the end of its tree can carry, at most `most`, or 0 where the
     // node hangs on no end.
-    fn least_room(&self, from: u32, tree: Tree, most: u32) -> u32 {
-        let inward = Trees::inward(tree);
+    fn least_room(&self, from: u32, tree: u8, most: u32) -> u32 {
+        let inward = other_way(u32::from(tree));
         let mut least = most;
         let mut last = self.node(from);
         for _ in 0..self.nodes.len() {
@@ -191,8 +166,8 @@ impl Trees {
 
     // Sends an amount over the arcs between a node and the end of its tree. Nodes whose arc can carry no
     // more lose their parent.
-    fn push_along(&mut self, from: u32, tree: Tree, amount: u32) {
-        let inward = Trees::inward(tree);
+    fn push_along(&mut self, from: u32, tree: u8, amount: u32) {
+        let inward = other_way(u32::from(tree));
         let nodes = self.nodes.as_mut_slice();
         let rooms = self.arcs.rooms_mut();
         let mut last = from;
@@ -215,44 +190,22 @@ impl Trees {
         self.count(steps);
     }
 
-    // Sends as much as it can carry, at most `most`, over an arc from a node of a tree to the other one, and
-    // on to the end of that. Returns how much.
-    fn send_beyond(&mut self, tree: Tree, arc: Arc, most: u32) -> u32 {
-        let beyond = if tree == Tree::Source {
-            Tree::Sink
-        } else {
-            Tree::Source
-        };
-        let meeting = arc.number ^ Trees::outward(tree);
-        let most = most.min(self.arcs.room(meeting));
-        let amount = self.least_room(arc.head, beyond, most);
-        self.arcs.push(meeting, amount);
-        self.push_along(arc.head, beyond, amount);
-        amount
-    }
-
     // How far a node is from the end of its tree, or None where it hangs on none: as many steps as lead to a node
-    // whose distance was noted at this time, or to the end itself, and what was noted there.
+    // whose distance was noted at this time, and what was noted there, or to the end itself.
     fn distance(&mut self, from: u32) -> Option<u16> {
-        let mut last = from;
+        let mut node = self.node(from);
         let mut steps = 0u32;
         for _ in 0..self.nodes.len() {
-            let node = self.node(last);
             if node.stamp == self.time || node.parent >= END {
                 break;
             }
-            last = node.parent;
+            node = self.node(node.parent);
             steps = steps.wrapping_add(1);
         }
         self.count(steps.wrapping_add(1));
-        let node = self.node(last);
         let noted = if node.stamp == self.time {
             node.distance
         } else if node.parent == END {
-            if let Some(entry) = self.nodes.get_mut(last as usize) {
-                entry.distance = 1;
-                entry.stamp = self.time;
-            }
             1
         } else {
             return None;
@@ -261,7 +214,7 @@ impl Trees {
         Some(all.min(u32::from(u16::MAX)) as u16)
     }
 
-    // Notes the distances of the nodes from one to the first whose distance was noted at this time.
+    // Notes the distances of the nodes from one to the first whose distance was noted at this time, or to the end.
     fn note_distances(&mut self, from: u32, distance: u16) {
         let time = self.time;
         let nodes = self.nodes.as_mut_slice();
@@ -281,42 +234,31 @@ impl Trees {
         }
     }
 
-    // The first of the places of a node's arcs from which flow can come from, or go to, another node of a tree.
-    fn next_inward(&self, tree: Tree, places: Range<u32>) -> Option<u32> {
-        let inward = Trees::inward(tree);
-        for place in places {
-            let arc = self.arcs.at(place);
-            if self.arcs.room(arc.number ^ inward) > 0 && self.node(arc.head).tree == tree {
-                return Some(place);
-            }
-        }
-        None
-    }
-
     // The arc over which a node that lost its parent hangs nearest to the end of its tree, or the first over which
     // it hangs no farther from it than it did, and how far the node is that it enters.
-    fn nearest_parent(&mut self, number: u32, tree: Tree) -> Option<(Arc, u16)> {
+    fn nearest_parent(&mut self, number: u32, tree: u8) -> Option<(Arc, u16)> {
+        let inward = other_way(u32::from(tree));
         let mut best = None;
         let mut least = u16::MAX;
         let before = self.node(number).distance.max(2);
         let places = self.arcs.places_of(number);
         let mut next = places.start;
-        for _ in places.start..places.end {
-            let Some(place) = self.next_inward(tree, next..places.end) else {
-                next = places.end;
-                break;
-            };
+        for place in places.start..places.end {
             next = place.wrapping_add(1);
             let arc = self.arcs.at(place);
-            if let Some(distance) = self.distance(arc.head) {
-                self.note_distances(arc.head, distance);
-                if best.is_none() || distance < least {
-                    least = distance;
-                    best = Some((arc, distance));
-                }
-                if distance < before {
-                    break;
-                }
+            if self.arcs.room(arc.number ^ inward) == 0 || self.node(arc.head).tree != tree {
+                continue;
+            }
+            let Some(distance) = self.distance(arc.head) else {
+                continue;
+            };
+            self.note_distances(arc.head, distance);
+            if best.is_none() || distance < least {
+                least = distance;
+                best = Some((arc, distance));
+            }
+            if distance < before {
+                break;
             }
         }
         self.count(next.wrapping_sub(places.start));
@@ -325,24 +267,25 @@ impl Trees {
 
     // Takes a node out of its tree. What hangs on it loses its parent and waits for another, and its other neighbours
     // may grow.
-    fn set_loose(&mut self, number: u32, tree: Tree) {
-        let inward = Trees::inward(tree);
+    fn set_loose(&mut self, number: u32, tree: u8) {
+        let inward = other_way(u32::from(tree));
         let places = self.arcs.places_of(number);
         self.count(places.end.saturating_sub(places.start));
         for place in places {
             let arc = self.arcs.at(place);
-            let other = self.node(arc.head);
+            let Some(other) = self.nodes.get_mut(arc.head as usize) else {
+                continue;
+            };
             if other.tree != tree {
                 continue;
             }
             if !other.active && self.arcs.room(arc.number ^ inward) > 0 {
-                self.activate(arc.head);
+                other.active = true;
+                let _ = self.active.push_back(arc.head);
             }
             if other.parent == number && other.number == other_way(arc.number) {
-                if let Some(entry) = self.nodes.get_mut(arc.head as usize) {
-                    entry.parent = LOST;
-                    let _ = self.lost.push_back(arc.head);
-                }
+                other.parent = LOST;
+                let _ = self.lost.push_back(arc.head);
             }
         }
         if let Some(entry) = self.nodes.get_mut(number as usize) {
@@ -374,7 +317,7 @@ impl Trees {
     // the node is active, and its turn comes again.
     fn next_node(&mut self, last: Option<(u32, u32)>) -> Option<(u32, u32)> {
         if let Some((number, _)) = last {
-            if self.node(number).tree != Tree::Neither {
+            if self.node(number).tree != NEITHER {
                 return last;
             }
         }
@@ -390,6 +333,8 @@ impl Trees {
     // the place of the last arc, or None where nothing could be sent.
     fn send_from(&mut self, number: u32, place: u32, limit: u64) -> Option<u32> {
         let tree = self.node(number).tree;
+        let beyond = tree ^ 1;
+        let outward = u32::from(tree);
         let most = self.least_room(number, tree, u32::MAX);
         let mut sent = 0u32;
         let mut last = place;
@@ -397,7 +342,11 @@ impl Trees {
             self.time = self.time.wrapping_add(1);
             let left = most.wrapping_sub(sent);
             let arc = self.arcs.at(last);
-            let amount = self.send_beyond(tree, arc, left);
+            let meeting = arc.number ^ outward;
+            let room = left.min(self.arcs.room(meeting));
+            let amount = self.least_room(arc.head, beyond, room);
+            self.arcs.push(meeting, amount);
+            self.push_along(arc.head, beyond, amount);
             sent = sent.wrapping_add(amount);
             if amount == 0 || amount == left || self.work > limit {
                 break;
@@ -414,23 +363,24 @@ impl Trees {
     }
 
     // Makes an end of the network the beginning of its tree.
-    fn plant(&mut self, number: u32, tree: Tree) {
+    fn plant(&mut self, number: u32, tree: u8) {
         if let Some(entry) = self.nodes.get_mut(number as usize) {
             *entry = Node {
                 parent: END,
                 distance: 1,
                 tree,
+                active: true,
                 ..LOOSE
             };
+            let _ = self.active.push_back(number);
         }
-        self.activate(number);
     }
 
     /// Sends flow from the source to the sink, over at most about `limit` arcs: lets the trees grow and sends flow where
     /// they meet, until they are apart. Returns whether they are, so that no more can be sent.
     pub fn send(&mut self, source: u32, sink: u32, limit: u64) -> bool {
-        self.plant(source, Tree::Source);
-        self.plant(sink, Tree::Sink);
+        self.plant(source, SOURCE);
+        self.plant(sink, SINK);
         let mut last = None;
         for _ in 0..limit {
             if self.work > limit {
@@ -441,7 +391,7 @@ impl Trees {
             };
             last = None;
             self.work = self.work.wrapping_add(1);
-            if self.node(number).tree == Tree::Neither {
+            if self.node(number).tree == NEITHER {
                 continue;
             }
             let Some(place) = self.grow(number, from) else {
@@ -453,10 +403,5 @@ impl Trees {
             last = Some((number, place));
         }
         false
-    }
-
-    /// The arcs with what they can still carry. The other tables are given back.
-    pub fn into_arcs(self) -> PackedArcs {
-        self.arcs
     }
 }

@@ -108,14 +108,12 @@ impl Stars {
 
     // Takes from what a node has to send to the sink, at most so much. Returns how much that is.
     fn take(&mut self, node: u32, most: u32) -> u32 {
-        match self.to_sink.get_mut(node as usize) {
-            Some(entry) => {
-                let amount = most.min(*entry);
-                *entry = entry.wrapping_sub(amount);
-                amount
-            }
-            None => 0,
-        }
+        let Some(entry) = self.to_sink.get_mut(node as usize) else {
+            return 0;
+        };
+        let amount = most.min(*entry);
+        *entry = entry.wrapping_sub(amount);
+        amount
     }
 
     // Whether three pipes are a star whose middle comes after another.
@@ -188,16 +186,6 @@ impl Stars {
 }
 
 impl Shorter {
-    // A network without pipes, with room for so many, of the nodes before the first middle.
-    fn begin(alloc: Global, middle: u32, pipes: usize) -> Result<Shorter, AllocError>
-        ensures { IfOk result (λ made. HasRoomForPipes pipes made.pipes) }
-    {
-        let to_sink = vec![in alloc; 0u32; middle as usize]?;
-        let pipes = Vec::with_capacity(alloc, pipes)?;
-        let stars = Stars { middle, to_sink };
-        Ok(Shorter { pipes, stars })
-    }
-
     // Adds the triangle for a star, but for its pipes to the sink.
     fn add_star(&mut self, first: &Pipe, second: &Pipe, down: &Pipe)
         requires { HasRoomForPipes 1 self.old.pipes }
@@ -273,7 +261,11 @@ impl Shorter {
         if source.max(sink) >= middle {
             return Ok(None);
         }
-        let mut shorter = Shorter::begin(alloc, middle, pipes.len())?;
+        let to_sink = vec![in alloc; 0u32; middle as usize]?;
+        let mut shorter = Shorter {
+            pipes: Vec::with_capacity(alloc, pipes.len())?,
+            stars: Stars { middle, to_sink },
+        };
         let is_short = shorter.shorten(pipes, sink)?;
         Ok(if is_short { Some(shorter) } else { None })
     }

@@ -83,10 +83,9 @@ pub fn flow_left(
     requires clear { (n : ℕ) → excess_at excess.old n ≡ pos 0 }
     ensures { IfSome result (Carries pipes.now source sink backward.now) }
 {
-    if !count_pipes(pipes, nodes, backward, excess) {
-        return None;
-    }
-    if !is_balanced(excess, source as usize, sink as usize) {
+    if !count_pipes(pipes, nodes, backward, excess)
+        || !is_balanced(excess, source as usize, sink as usize)
+    {
         return None;
     }
     let value = excess[source as usize];

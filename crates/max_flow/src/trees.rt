@@ -129,12 +129,11 @@ impl Trees {
                 continue;
             };
             if other.tree == node.tree {
-                if other.stamp <= node.stamp && other.distance > distance {
-                    other.hang(number, other_way(arc.number), distance, node.stamp);
+                if other.stamp > node.stamp || other.distance <= distance {
+                    continue;
                 }
             } else if other.tree == NEITHER {
                 other.tree = node.tree;
-                other.hang(number, other_way(arc.number), distance, node.stamp);
                 if !other.active {
                     other.active = true;
                     let _ = self.active.push_back(arc.head);
@@ -143,6 +142,7 @@ impl Trees {
                 meeting = Some(place);
                 break;
             }
+            other.hang(number, other_way(arc.number), distance, node.stamp);
         }
         self.count(next.wrapping_sub(places.start));
         meeting
@@ -169,7 +169,7 @@ impl Trees {
     fn push_along(&mut self, from: u32, tree: u8, amount: u32) {
         let inward = other_way(u32::from(tree));
         let nodes = self.nodes.as_mut_slice();
-        let rooms = self.arcs.rooms_mut();
+        let rooms = self.arcs.rooms.as_mut_slice();
         let mut last = from;
         let mut steps = 0u32;
         for _ in 0..nodes.len() {
@@ -316,10 +316,10 @@ impl Trees {
     // the node is in a tree. If an arc before that place leads to a node that has left the tree since,
     // the node is active, and its turn comes again.
     fn next_node(&mut self, last: Option<(u32, u32)>) -> Option<(u32, u32)> {
-        if let Some((number, _)) = last {
-            if self.node(number).tree != NEITHER {
-                return last;
-            }
+        if let Some((number, _)) = last
+            && self.node(number).tree != NEITHER
+        {
+            return last;
         }
         let number = self.active.pop_front()?;
         if let Some(entry) = self.nodes.get_mut(number as usize) {

@@ -116,16 +116,6 @@ impl Stars {
         amount
     }
 
-    // Whether three pipes are a star whose middle comes after another.
-    fn is_star(&self, first: &Pipe, second: &Pipe, down: &Pipe, after: u32, sink: u32) -> bool {
-        meet(first, second, down, sink)
-            && first.to > after
-            && first.from < self.middle
-            && second.to < self.middle
-            && first.ahead == first.back
-            && second.ahead == second.back
-    }
-
     // Reads what the nodes send to the sink, from what is left for the arcs against the last pipes
     // of the shorter network. Returns how many pipes come before them.
     fn read_sent(&mut self, short: usize, backward: &[u32]) -> usize {
@@ -219,7 +209,13 @@ impl Shorter {
             let [second, down, beyond @ ..] = after else {
                 return false;
             };
-            if !self.stars.is_star(first, second, down, last, sink) {
+            // All three have to be a star whose middle comes after the last one.
+            if !meet(first, second, down, sink)
+                || first.to <= last
+                || first.from.max(second.to) >= self.stars.middle
+                || first.ahead != first.back
+                || second.ahead != second.back
+            {
                 return false;
             }
             self.add_star(first, second, down);

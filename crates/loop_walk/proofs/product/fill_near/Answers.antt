@@ -47,3 +47,36 @@ fill_row_of_rests-requires-clause-nears c = grind (arith, common_steps)
 
 pub fill_row_of_rests-requires-clause-rests : goal.fill_row_of_rests-requires-clause-rests
 fill_row_of_rests-requires-clause-rests c = grind (arith, common_steps)
+
+pub fill_row_of_rests-requires-clause-sums : goal.fill_row_of_rests-requires-clause-sums
+fill_row_of_rests-requires-clause-sums c = grind (arith, common_steps)
+
+pub overflow_add-i-in-loop-i : goal.overflow_add-i-in-loop-i
+overflow_add-i-in-loop-i c = grind (arith, common_steps)
+
+pub offset_bounds-made-i : goal.offset_bounds-made-i
+offset_bounds-made-i c = grind (arith, common_steps)
+
+pub overflow_mul-i-in-loop-i-2 : goal.overflow_mul-i-in-loop-i-2
+overflow_mul-i-in-loop-i-2 c = grind (arith, common_steps)
+
+pub overflow_mul-i-in-loop-i-3 : goal.overflow_mul-i-in-loop-i-3
+overflow_mul-i-in-loop-i-3 c = grind (arith, common_steps)
+
+pub fill_row_of_rests-requires-clause-few : goal.fill_row_of_rests-requires-clause-few
+fill_row_of_rests-requires-clause-few c = grind (arith, common_steps)
+
+pub offset_bounds-left-i : goal.offset_bounds-left-i
+offset_bounds-left-i c = grind (arith, common_steps)
+
+pub overflow_add-i : goal.overflow_add-i
+overflow_add-i c = grind (arith, common_steps)
+
+pub overflow_mul-i : goal.overflow_mul-i
+overflow_mul-i c = grind (arith, common_steps)
+
+pub overflow_mul-i-in-loop-i : goal.overflow_mul-i-in-loop-i
+overflow_mul-i-in-loop-i c = grind (arith, common_steps)
+
+pub fill_rest_table-requires-clause-bases : goal.fill_rest_table-requires-clause-bases
+fill_rest_table-requires-clause-bases c = grind (arith, common_steps)

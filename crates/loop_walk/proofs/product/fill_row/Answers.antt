@@ -19,3 +19,12 @@ loop-h-init c = grind (arith, common_steps)
 
 pub returns : goal.returns
 returns c = grind (arith, common_steps)
+
+pub lower_through-requires-clause-near_nears : goal.lower_through-requires-clause-near_nears
+lower_through-requires-clause-near_nears c = grind (arith, common_steps)
+
+pub lower_through-requires-clause-near : goal.lower_through-requires-clause-near
+lower_through-requires-clause-near c = grind (arith, common_steps)
+
+pub lower_through-requires-clause-firsts : goal.lower_through-requires-clause-firsts
+lower_through-requires-clause-firsts c = grind (arith, common_steps)

@@ -1,3 +1,4 @@
+use Rattle.std.proofs.lemmas.Grind.{common_steps}
 use Rattle.std.proofs.Common.{◌≡◌, ℕ, ◌+◌, ◌<◌, ◌∙◌, length, get_or, ap, arith}
 use Rattle.std.specs.Prelude.{min}
 use Rattle.loop_walk.specs.declared.product.TheConstants.{FAR}
@@ -18,3 +19,24 @@ loop-j-preserved c =
       same = same_after start sums j c.lesser.result so.same;
       near = bounded_more FAR sums j c.lesser.result inside (omega (arith, is, so.near j inside)) so.near;
     }
+
+pub bounds-sums-j-in-loop-j : goal.bounds-sums-j-in-loop-j
+bounds-sums-j-in-loop-j c = grind (arith, common_steps)
+
+pub lesser-requires-clause-b : goal.lesser-requires-clause-b
+lesser-requires-clause-b c = grind (arith, common_steps)
+
+pub lesser-requires-clause-a : goal.lesser-requires-clause-a
+lesser-requires-clause-a c = grind (arith, common_steps)
+
+pub lesser-sum-requires-clause-b : goal.lesser-sum-requires-clause-b
+lesser-sum-requires-clause-b c = grind (arith, common_steps)
+
+pub lesser-sum-requires-clause-a : goal.lesser-sum-requires-clause-a
+lesser-sum-requires-clause-a c = grind (arith, common_steps)
+
+pub overflow_add-other : goal.overflow_add-other
+overflow_add-other c = grind (arith, common_steps)
+
+pub returns-clause-near : goal.returns-clause-near
+returns-clause-near c = grind (arith, common_steps)

@@ -35,3 +35,6 @@ loop-i-preserved c =
 
 pub bounds-table-first : goal.bounds-table-first
 bounds-table-first c = grind (arith, common_steps)
+
+pub returns-clause-first : goal.returns-clause-first
+returns-clause-first c = grind (arith, common_steps)

@@ -29,3 +29,6 @@ returns-clause-stands c =
     rw (c.from_vec.ensures, c.from_vec-2.ensures)
     (least_stands costs c.args.length c.in_ok-tables.tables.items walk c.in_ok-walk.cost (c.in_ok-tables.ensures {u = tt})
     (subst (λ tables. FindsLeast costs c.args.length tables walk c.in_ok-walk.cost) c.deref-3.ensures.value (c.in_ok-walk.ensures {u = tt}).found))
+
+pub returns-clause-cost : goal.returns-clause-cost
+returns-clause-cost c = grind (arith, common_steps)

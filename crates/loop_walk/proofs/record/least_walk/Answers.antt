@@ -54,3 +54,9 @@ walk_from-requires-clause-there c =
     c.first_frame-first.result (rw c.frames-n.ensures.frames at c.first_frame-first.ensures.below)
     (rw c.frames-n.ensures.frames at c.first_frame-first.ensures.least) (rw c.frames-n.ensures.frames at c.first_frame-first.ensures.first)
     (rw c.frames-n.ensures.frames at c.if-cost.false)
+
+pub table_in-last-requires-clause-few : goal.table_in-last-requires-clause-few
+table_in-last-requires-clause-few c = grind (arith, common_steps)
+
+pub table_in-last-requires-clause-there : goal.table_in-last-requires-clause-there
+table_in-last-requires-clause-there c = grind (arith, common_steps)

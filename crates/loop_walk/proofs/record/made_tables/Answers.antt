@@ -13,3 +13,6 @@ fill_tables-requires-clause-nears c = grind (arith, common_steps)
 
 pub fill_tables-requires-clause-rests : goal.fill_tables-requires-clause-rests
 fill_tables-requires-clause-rests c = grind (arith, common_steps)
+
+pub overflow_mul-n-2 : goal.overflow_mul-n-2
+overflow_mul-n-2 c = grind (arith, common_steps)

@@ -1,3 +1,4 @@
+use Rattle.std.proofs.lemmas.Grind.{common_steps}
 use Rattle.std.proofs.Common.{◌≡◌, ◌+◌, ◌-◌, ◌*◌, ◌<◌, ◌≤◌, length, drop, get_or, take, subst, arith, length-take, length-drop}
 use Rattle.std.proofs.Math.Nat.{mul-le-mul_right}
 use Rattle.loop_walk.specs.declared.rests.TheConstants.{GREATEST_BASE}
@@ -20,3 +21,6 @@ loop-v-preserved c =
           (λ u lt. c.loop-v.invariant.below u j lt column)
           (subst (λ x. c.base_of.result ≤ x) (get_or-row nears (v * n) n j column) (c.base_of.ensures.base j (omega (arith, whole, column)))) u lt;
     }
+
+pub slice_bounds-base_of-end : goal.slice_bounds-base_of-end
+slice_bounds-base_of-end c = grind (arith, common_steps)

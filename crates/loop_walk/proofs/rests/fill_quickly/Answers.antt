@@ -29,3 +29,27 @@ fill_sums-requires-clause-firsts c = grind (arith, common_steps)
 
 pub fill_rests-requires-clause-base : goal.fill_rests-requires-clause-base
 fill_rests-requires-clause-base c = grind (arith, common_steps)
+
+pub fill_sums-requires-clause-nears : goal.fill_sums-requires-clause-nears
+fill_sums-requires-clause-nears c = grind (arith, common_steps)
+
+pub fill_rest_row-requires-clause-sums : goal.fill_rest_row-requires-clause-sums
+fill_rest_row-requires-clause-sums c = grind (arith, common_steps)
+
+pub fill_sums-requires-clause-rests : goal.fill_sums-requires-clause-rests
+fill_sums-requires-clause-rests c = grind (arith, common_steps)
+
+pub raise-requires-clause-small : goal.raise-requires-clause-small
+raise-requires-clause-small c = grind (arith, common_steps)
+
+pub returns : goal.returns
+returns c = grind (arith, common_steps)
+
+pub fill_rest_row-requires-clause-rests : goal.fill_rest_row-requires-clause-rests
+fill_rest_row-requires-clause-rests c = grind (arith, common_steps)
+
+pub fill_rests-requires-clause-rests : goal.fill_rests-requires-clause-rests
+fill_rests-requires-clause-rests c = grind (arith, common_steps)
+
+pub fill_rest_row-requires-clause-firsts : goal.fill_rest_row-requires-clause-firsts
+fill_rest_row-requires-clause-firsts c = grind (arith, common_steps)

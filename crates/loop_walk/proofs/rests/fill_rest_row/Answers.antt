@@ -19,3 +19,15 @@ loop-h-init c = grind (arith, common_steps)
 
 pub returns : goal.returns
 returns c = grind (arith, common_steps)
+
+pub lower_rests_through-requires-clause-small_rests : goal.lower_rests_through-requires-clause-small_rests
+lower_rests_through-requires-clause-small_rests c = grind (arith, common_steps)
+
+pub lower_rests_through-requires-clause-small_firsts : goal.lower_rests_through-requires-clause-small_firsts
+lower_rests_through-requires-clause-small_firsts c = grind (arith, common_steps)
+
+pub lower_rests_through-requires-clause-small : goal.lower_rests_through-requires-clause-small
+lower_rests_through-requires-clause-small c = grind (arith, common_steps)
+
+pub lower_rests_through-requires-clause-firsts : goal.lower_rests_through-requires-clause-firsts
+lower_rests_through-requires-clause-firsts c = grind (arith, common_steps)

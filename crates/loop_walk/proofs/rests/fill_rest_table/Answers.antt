@@ -35,3 +35,18 @@ slice_bounds-fill_rests-end-in-loop-v c = grind (arith, common_steps)
 
 pub slice_bounds-fill_rests-end : goal.slice_bounds-fill_rests-end
 slice_bounds-fill_rests-end c = omega (arith, c.loop-v.auto.rests, c.requires.rests, mul-le-mul_right c.args.n c.loop-v-test.true)
+
+pub fill_rests-requires-clause-rests : goal.fill_rests-requires-clause-rests
+fill_rests-requires-clause-rests c = grind (arith, common_steps)
+
+pub overflow_add-v-in-loop-v : goal.overflow_add-v-in-loop-v
+overflow_add-v-in-loop-v c = grind (arith, common_steps)
+
+pub offset_bounds-rests-v : goal.offset_bounds-rests-v
+offset_bounds-rests-v c = grind (arith, common_steps)
+
+pub overflow_mul-v-in-loop-v-3 : goal.overflow_mul-v-in-loop-v-3
+overflow_mul-v-in-loop-v-3 c = grind (arith, common_steps)
+
+pub overflow_mul-v-in-loop-v-2 : goal.overflow_mul-v-in-loop-v-2
+overflow_mul-v-in-loop-v-2 c = grind (arith, common_steps)

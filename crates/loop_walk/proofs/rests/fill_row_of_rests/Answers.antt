@@ -16,3 +16,21 @@ fill_quickly-requires-clause-halves c = grind (arith, common_steps)
 
 pub fill_quickly-requires-clause-raised : goal.fill_quickly-requires-clause-raised
 fill_quickly-requires-clause-raised c = grind (arith, common_steps)
+
+pub fill_quickly-requires-clause-near : goal.fill_quickly-requires-clause-near
+fill_quickly-requires-clause-near c = grind (arith, common_steps)
+
+pub fill_row-requires-clause-near : goal.fill_row-requires-clause-near
+fill_row-requires-clause-near c = grind (arith, common_steps)
+
+pub slice_bounds-fill_quickly-end-then-quick-2 : goal.slice_bounds-fill_quickly-end-then-quick-2
+slice_bounds-fill_quickly-end-then-quick-2 c = grind (arith, common_steps)
+
+pub slice_bounds-fill_quickly-end-then-quick : goal.slice_bounds-fill_quickly-end-then-quick
+slice_bounds-fill_quickly-end-then-quick c = grind (arith, common_steps)
+
+pub slice_bounds-fill_quickly-end : goal.slice_bounds-fill_quickly-end
+slice_bounds-fill_quickly-end c = grind (arith, common_steps)
+
+pub fill_quickly-requires-clause-sums : goal.fill_quickly-requires-clause-sums
+fill_quickly-requires-clause-sums c = grind (arith, common_steps)

@@ -17,3 +17,6 @@ sum_of-requires-clause-exact c = grind (arith, common_steps)
 
 pub loop-j-init : goal.loop-j-init
 loop-j-init c = grind (arith, common_steps)
+
+pub sum_of-requires-clause-near : goal.sum_of-requires-clause-near
+sum_of-requires-clause-near c = grind (arith, common_steps)

@@ -1,3 +1,4 @@
+use Rattle.std.proofs.lemmas.Grind.{common_steps}
 use Rattle.std.proofs.Common.{◌≡◌, ℕ, ◌+◌, ◌<◌, ◌∙◌, length, get_or, ap, arith}
 use Rattle.std.specs.Prelude.{min}
 use Rattle.loop_walk.specs.declared.rests.TheConstants.{GREATEST_REST}
@@ -18,3 +19,12 @@ loop-j-preserved c =
       same = same_after start sums j c.min.result so.same;
       small = bounded_more GREATEST_REST sums j c.min.result inside (omega (arith, is, so.small j inside)) so.small;
     }
+
+pub bounds-sums-j-in-loop-j : goal.bounds-sums-j-in-loop-j
+bounds-sums-j-in-loop-j c = grind (arith, common_steps)
+
+pub overflow_add-other : goal.overflow_add-other
+overflow_add-other c = grind (arith, common_steps)
+
+pub returns-clause-small : goal.returns-clause-small
+returns-clause-small c = grind (arith, common_steps)

@@ -25,3 +25,6 @@ loop-v-init c = grind (arith, common_steps)
 
 pub bounds-nears-v : goal.bounds-nears-v
 bounds-nears-v c = omega (arith, c.requires.nears, mul-add-lt c.loop-v.v c.args.n c.args.j c.args.n c.loop-v-test.true c.requires.column)
+
+pub overflow_add-min : goal.overflow_add-min
+overflow_add-min c = grind (arith, common_steps)

@@ -1,3 +1,4 @@
+use Rattle.std.proofs.lemmas.Grind.{common_steps}
 use Rattle.std.proofs.Common.{◌≡◌, ℕ, ◌+◌, ◌*◌, ◌<◌, ◌≤◌, ap, sym, ◌∙◌, subst, arith, get_or}
 use Rattle.std.specs.Prelude.{IfNone, IfSome}
 use Rattle.loop_walk.specs.Tables.{length_before, table_count, table_lengths}
@@ -66,3 +67,9 @@ returns-in-None-clause-broken t c =
     let area = costs.frames * costs.frames in
     subst (λ n. IfSome c.broken_entry.result (λ place. IsFirstPlace n (PlaceHolds costs c.args.length c.args.tables.now) place))
     (ap (λ k. k * area) (counts c.args.length c.length_before-before.result c.table_count-t.result (omega arith) c.length_before-before.ensures c.table_count-t.ensures.count)) c.broken_entry.ensures.broken
+
+pub broken_entry-requires-clause-number : goal.broken_entry-requires-clause-number
+broken_entry-requires-clause-number t c = grind (arith, common_steps)
+
+pub returns-then-length-eq1-clause-hold : goal.returns-then-length-eq1-clause-hold
+returns-then-length-eq1-clause-hold t c = grind (arith, common_steps)

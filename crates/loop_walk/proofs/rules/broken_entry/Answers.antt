@@ -122,3 +122,36 @@ broken_in_row-requires-clause-nears c = grind (arith, common_steps)
 
 pub broken_in_row-requires-clause-rests : goal.broken_in_row-requires-clause-rests
 broken_in_row-requires-clause-rests c = grind (arith, common_steps)
+
+pub overflow_cast-result : goal.overflow_cast-result
+overflow_cast-result c = grind (arith, common_steps)
+
+pub overflow_cast-result-in-Some : goal.overflow_cast-result-in-Some
+overflow_cast-result-in-Some c = grind (arith, common_steps)
+
+pub fill_near_table-requires-clause-enough : goal.fill_near_table-requires-clause-enough
+fill_near_table-requires-clause-enough c = grind (arith, common_steps)
+
+pub fill_near_table-requires-clause-nears : goal.fill_near_table-requires-clause-nears
+fill_near_table-requires-clause-nears c = grind (arith, common_steps)
+
+pub broken_in_row-requires-clause-enough : goal.broken_in_row-requires-clause-enough
+broken_in_row-requires-clause-enough c = grind (arith, common_steps)
+
+pub broken_in_row-requires-clause-row : goal.broken_in_row-requires-clause-row
+broken_in_row-requires-clause-row c = grind (arith, common_steps)
+
+pub broken_in_row-requires-clause-number : goal.broken_in_row-requires-clause-number
+broken_in_row-requires-clause-number c = grind (arith, common_steps)
+
+pub slice_bounds-rests-end-2 : goal.slice_bounds-rests-end-2
+slice_bounds-rests-end-2 c = grind (arith, common_steps)
+
+pub fill_near_table-requires-clause-number : goal.fill_near_table-requires-clause-number
+fill_near_table-requires-clause-number c = grind (arith, common_steps)
+
+pub slice_bounds-nears-end-2 : goal.slice_bounds-nears-end-2
+slice_bounds-nears-end-2 c = grind (arith, common_steps)
+
+pub returns-in-Some-clause-hold : goal.returns-in-Some-clause-hold
+returns-in-Some-clause-hold c = grind (arith, common_steps)

@@ -51,3 +51,27 @@ pub loop-j-preserved : goal.loop-j-preserved
 loop-j-preserved c =
     below_more (IsBelowProducts c.args.costs.now c.args.tables.now c.args.t c.args.second c.args.i) c.loop-j.j c.loop-j.invariant
     (c.is_below.ensures.0 c.if-not-is_below.false)
+
+pub fill_near_row-requires-clause-nears : goal.fill_near_row-requires-clause-nears
+fill_near_row-requires-clause-nears c = grind (arith, common_steps)
+
+pub slice_bounds-fill_near_row-end : goal.slice_bounds-fill_near_row-end
+slice_bounds-fill_near_row-end c = grind (arith, common_steps)
+
+pub is_below-requires-clause-second : goal.is_below-requires-clause-second
+is_below-requires-clause-second c = grind (arith, common_steps)
+
+pub is_below-requires-clause-enough : goal.is_below-requires-clause-enough
+is_below-requires-clause-enough c = grind (arith, common_steps)
+
+pub fill_row_of_rests-requires-clause-bases : goal.fill_row_of_rests-requires-clause-bases
+fill_row_of_rests-requires-clause-bases c = grind (arith, common_steps)
+
+pub is_below-requires-clause-row : goal.is_below-requires-clause-row
+is_below-requires-clause-row c = grind (arith, common_steps)
+
+pub is_below-requires-clause-column : goal.is_below-requires-clause-column
+is_below-requires-clause-column c = grind (arith, common_steps)
+
+pub is_below-requires-clause-number : goal.is_below-requires-clause-number
+is_below-requires-clause-number c = grind (arith, common_steps)

@@ -33,3 +33,6 @@ pub entry_in-other-requires-clause-enough : goal.entry_in-other-requires-clause-
 entry_in-other-requires-clause-enough c =
     let le : c.args.second ≤ c.args.t + 1 = omega (arith, c.requires.second) in
     omega (arith, c.requires.enough, mul-le-mul_right (table_size c.args.costs.now) le)
+
+pub loop-v-init : goal.loop-v-init
+loop-v-init c = grind (arith, common_steps)

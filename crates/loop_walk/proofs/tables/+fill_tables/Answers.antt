@@ -106,3 +106,12 @@ table_in-left-requires-clause-count t c = grind (arith, common_steps)
 
 pub returns-then-length-eq1 : goal.returns-then-length-eq1
 returns-then-length-eq1 t c = grind (arith, common_steps)
+
+pub slice_back_joined-tables : goal.slice_back_joined-tables
+slice_back_joined-tables t c = grind (arith, common_steps)
+
+pub fill_product-requires-clause-few : goal.fill_product-requires-clause-few
+fill_product-requires-clause-few t c = grind (arith, common_steps)
+
+pub both_followed-tables : goal.both_followed-tables
+both_followed-tables t c = grind (arith, common_steps)

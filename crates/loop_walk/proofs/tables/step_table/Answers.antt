@@ -1,3 +1,4 @@
+use Rattle.std.proofs.lemmas.Grind.{common_steps}
 use Rattle.std.proofs.Common.{◌≡◌, ◌*◌, ap, sym, ◌∙◌, arith}
 use Rattle.frame_distance.specs.Tables.{entries_of}
 use Rattle.frame_distance.proofs.EntryLaws.{entries_of_more}
@@ -16,3 +17,6 @@ returns c =
     step_table_is c.args.costs.now c.frames-n.ensures.steps c.loop-k.table.items
     (c.loop-k.invariant ∙ ap (entries_of c.frames-n.result (step_numbers c.args.costs.now)) whole
     ∙ ap (λ n. entries_of n (step_numbers c.args.costs.now) (n * n)) c.frames-n.ensures.frames)
+
+pub step-step-requires-clause-from : goal.step-step-requires-clause-from
+step-step-requires-clause-from c = grind (arith, common_steps)

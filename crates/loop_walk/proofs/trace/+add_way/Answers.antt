@@ -109,3 +109,12 @@ table_in-right-requires-clause-few t c = rw c.requires.steps.whole (table_few c.
 
 pub table_in-left-requires-clause-few : goal.table_in-left-requires-clause-few
 table_in-left-requires-clause-few t c = rw c.requires.steps.whole (table_few c.args.costs.now.frames c.frames-n.ensures.steps.frames.1)
+
+pub returns-then-length-eq1 : goal.returns-then-length-eq1
+returns-then-length-eq1 t c = grind (arith, common_steps)
+
+pub table_in-right-requires-clause-count : goal.table_in-right-requires-clause-count
+table_in-right-requires-clause-count t c = grind (arith, common_steps)
+
+pub table_in-left-requires-clause-count : goal.table_in-left-requires-clause-count
+table_in-left-requires-clause-count t c = grind (arith, common_steps)

@@ -9,13 +9,9 @@ use Rattle.block_strips.specs.Laid.{IsLaidByBlocks}
 use Rattle.quilted.specs.Runs.{HaveOneFrame, QuiltsTo, Rating, first_quilting, quilting}
 use Rattle.limits.specs.declared.bounds.TheConstants.{MOST_BOX_CELLS}
 use Rattle.quilted.specs.declared.asked.QuiltRun.{QuiltRun}
-use Rattle.quilted.specs.declared.asked.QuiltError.{QuiltError}
-use Rattle.quilted.specs.declared.asked.QuiltError.TheVariants.{Records, NoMemory}
 use Rattle.quilt.specs.declared.work.QuiltWork.{QuiltWork}
 use Rattle.quilted.specs.Costs.{IsFileBlock, all_boundaries, quilt_cost}
 use Rattle.block_check.specs.Blocks.{block_cells}
-use Rattle.quilted.specs.PlanLimit.{PlanStaysWithin}
-use Rattle.quilted.specs.Quilted.{QuiltPassesAt}
 
 pub record IsQuiltWork (rating : Rating) (asked : QuiltRun) (sample : Cells) (work : QuiltWork)
     : Type 0 where
@@ -40,9 +36,3 @@ QuiltAdvances rating asked sample was now (Ok true) = IsQuiltWork rating asked s
 QuiltAdvances rating asked sample was now (Ok false) =
     IsQuiltWork rating asked sample now × IsFull now.canvas.map
 QuiltAdvances rating asked sample was now (Err error) = Unit {0}
-
--- whether a run stays within the bound on the cells of its boxes
-abbrev pub IsWithinOrPast : QuiltRun → Cells → Result (Unit {0}) QuiltError → Type 0
-IsWithinOrPast asked sample (Ok done) = PlanStaysWithin asked.plan asked.size sample.size
-IsWithinOrPast asked sample (Err (Records number)) = QuiltPassesAt asked sample number
-IsWithinOrPast asked sample (Err NoMemory) = ⊥

@@ -1,9 +1,6 @@
 // The whole run.
-ghost use Rattle.std.specs.Prelude.{IfOk};
 ghost use Rattle.quilted.specs.Runs.{by_overlap};
-ghost use Rattle.quilted.specs.PlanLimit.{PlanStaysWithin};
-ghost use Rattle.quilted.specs.Quilted.{CanBeQuilted, IsQuilt, Quilts};
-ghost use Rattle.quilt.specs.QuiltWork.{IsWithinOrPast};
+ghost use Rattle.quilted.specs.Quilted.{CanBeQuilted, Quilts};
 
 use crate::BlockPicks;
 use crate::work::{QuiltWork, step};
@@ -14,31 +11,24 @@ use map_canvas::Canvas;
 use patch_picks::Draws;
 use quilted::{QuiltError, QuiltRun, Quilted, first_past};
 use search_squares::SampleSums;
-use std::alloc::{AllocError, Global};
+use std::alloc::Global;
 
-// Refuses a run whose boxes have too many cells, before a place is picked.
-fn keep_within(asked: &QuiltRun, sample: &Volume) -> Result<(), QuiltError>
-    requires { CanBeQuilted asked.now sample.now }
-    ensures { IsWithinOrPast asked.now sample.now result }
-{
-    match first_past(&asked.plan, asked.size, sample.size()) {
-        Some(number) => Err(QuiltError::Records(number)),
-        None => Ok(()),
-    }
-}
-
-// The whole run, of a plan that stays within the bound: blocks from the empty canvas to a full one.
-fn quilt_within<P: BlockPicks>(
+/// Quilts an output from blocks of a sample, of one frame and three samples per cell, with a record of each
+/// block. `picks` picks the place of each block, by its ratings. The draws are those of the seed, from number 0
+/// on. The limit comes before any pick.
+pub fn quilt_by<P: BlockPicks>(
     alloc: Global,
     asked: &QuiltRun,
     sample: &Volume,
     picks: &P,
-) -> Result<Quilted, AllocError>
+) -> Result<Quilted, QuiltError>
     requires can { CanBeQuilted asked.now sample.now }
-    requires within { PlanStaysWithin asked.now.plan asked.now.size sample.now.size }
     requires ready { P.AreReady picks.now asked.now.size sample.now }
-    ensures { IfOk result (IsQuilt (P.rating picks.now sample.now) asked.now sample.now) }
+    ensures { Quilts (P.rating picks.now sample.now) asked.now sample.now result }
 {
+    if let Some(number) = first_past(&asked.plan, asked.size, sample.size()) {
+        return Err(QuiltError::Records(number));
+    }
     empty_map_is_laid();
     let samples = sample.samples();
     let canvas = Canvas::empty(alloc, asked.size, samples)?;
@@ -61,23 +51,6 @@ fn quilt_within<P: BlockPicks>(
     })
 }
 
-/// Quilts an output from blocks of a sample, of one frame and three samples per cell, with a record of each
-/// block. `picks` picks the place of each block, by its ratings. The draws are those of the seed, from number 0
-/// on. The limit comes before any pick.
-pub fn quilt_by<P: BlockPicks>(
-    alloc: Global,
-    asked: &QuiltRun,
-    sample: &Volume,
-    picks: &P,
-) -> Result<Quilted, QuiltError>
-    requires can { CanBeQuilted asked.now sample.now }
-    requires ready { P.AreReady picks.now asked.now.size sample.now }
-    ensures { Quilts (P.rating picks.now sample.now) asked.now sample.now result }
-{
-    keep_within(asked, sample)?;
-    Ok(quilt_within(alloc, asked, sample, picks)?)
-}
-
 /// The same run, by overlap errors. The sums of the sample's blocks are made once for all picks; they take 8
 /// bytes for each cell of the sample until the run ends, or 4 where the sample has more than 2^22 bytes. The
 /// method is that of Efros and Freeman, "Image quilting" (2001).
@@ -85,7 +58,10 @@ pub fn quilt_canvas(alloc: Global, asked: &QuiltRun, sample: &Volume) -> Result<
     requires { CanBeQuilted asked.now sample.now }
     ensures { Quilts (by_overlap sample.now) asked.now sample.now result }
 {
-    keep_within(asked, sample)?;
+    // The limit comes before the sums are made.
+    if let Some(number) = first_past(&asked.plan, asked.size, sample.size()) {
+        return Err(QuiltError::Records(number));
+    }
     let sums = SampleSums::make(alloc, sample)?;
-    Ok(quilt_within(alloc, asked, sample, &sums)?)
+    quilt_by(alloc, asked, sample, &sums)
 }

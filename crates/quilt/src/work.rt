@@ -51,13 +51,11 @@ pub(crate) fn step<P: BlockPicks>(
     let Some(block) = next else {
         return Ok(false);
     };
-    let boundaries = work.boundaries + block_boundaries(&block);
-    let cost = work.cost + block_cost(&block);
     block_fits(&block);
+    work.boundaries += block_boundaries(&block);
+    work.cost += block_cost(&block);
     let Ok(()) = work.blocks.push(block) else {
         return Err(AllocError);
     };
-    work.boundaries = boundaries;
-    work.cost = cost;
     Ok(true)
 }

@@ -11,11 +11,11 @@ block_cost-requires g c =
     let is : QuiltsBy rating c.args.asked.now.plan c.args.sample.now (quilting c.args.work.now.canvas.map c.args.work.now.draws) c.in-Some.block (quilting c.next_block_by.new.canvas.map c.next_block_by.new.draws) = rw c.in-Some.is at c.in_ok-next.ensures.next in
     block_formed rating c.args.asked.now c.args.sample.now c.samples-samples.ensures.volume c.requires.can c.args.work.now c.requires.work c.in-Some.block _ is
 
-pub overflow_add-boundaries : goal.overflow_add-boundaries
-overflow_add-boundaries g c = omega (arith, c.requires.work.few, c.requires.work.within, c.block_boundaries.ensures.small)
+pub overflow_add-work : goal.overflow_add-work
+overflow_add-work g c = omega (arith, c.requires.work.few, c.requires.work.within, c.block_boundaries.ensures.small)
 
-pub overflow_add-cost : goal.overflow_add-cost
-overflow_add-cost g c = omega (arith, c.requires.work.cheap, c.requires.work.within, c.block_cost.ensures.small)
+pub overflow_add-work-2 : goal.overflow_add-work-2
+overflow_add-work-2 g c = omega (arith, c.requires.work.cheap, c.requires.work.within, c.block_cost.ensures.small)
 
 pub returns : goal.returns
 returns g c =

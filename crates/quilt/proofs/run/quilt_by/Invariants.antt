@@ -3,7 +3,7 @@ use Rattle.map_canvas.specs.Maps.{IsFull}
 use Rattle.block_check.specs.Blocks.{block_cells}
 use Rattle.limits.specs.declared.bounds.TheConstants.{MOST_BOX_CELLS}
 use Rattle.quilt.specs.QuiltWork.{IsQuiltWork}
-use Rattle.quilt.proofs.run.quilt_within.Given as goal
+use Rattle.quilt.proofs.run.quilt_by.Given as goal
 
 abbrev pub invariant-laying : goal.invariant-laying
 invariant-laying g l = record {

@@ -6,11 +6,12 @@ use Rattle.map_canvas.specs.Maps.{empty_map}
 use Rattle.quilted.specs.Runs.{QuiltsTo, first_quilting, quilting}
 use Rattle.quilted.proofs.Runs.{quilts_replay}
 use Rattle.limits.specs.declared.bounds.TheConstants.{MOST_BOX_CELLS}
+use Rattle.quilted.specs.PlanLimit.{PlanStaysWithin}
 use Rattle.quilted.specs.Costs.{IsFileBlock, all_boundaries, quilt_cost}
 use Rattle.block_check.specs.Blocks.{block_cells}
 use Rattle.quilt.specs.QuiltWork.{IsQuiltWork}
 use Rattle.quilt.proofs.Stepping.{none_made}
-use Rattle.quilt.proofs.run.quilt_within.Goals as goal
+use Rattle.quilt.proofs.run.quilt_by.Goals as goal
 
 pub laying-init : goal.laying-init
 laying-init g c = record {
@@ -47,3 +48,6 @@ returns g c =
         cells = subst (λ blocks. block_cells blocks ≤ MOST_BOX_CELLS) items work.within;
       };
     }
+
+pub step-requires-clause-within : goal.step-requires-clause-within
+step-requires-clause-within g c = subst (PlanStaysWithin c.args.asked.now.plan c.args.asked.now.size) c.size.ensures.size c.in_default.ensures

@@ -14,7 +14,7 @@ use Rattle.patch_place.specs.BoxErrors.{AreCounted}
 use Rattle.patch_picks.specs.Lists.{fit_list, from_part, part_lists, room}
 use Rattle.patch_place.specs.declared.overlaps.Overlaps.{Overlaps}
 use Rattle.patch_place.specs.Overlaps.{IsOverlap}
-use Rattle.patch_place.specs.Tables.{AreErrorsAmong, AreTableErrors, IsBeaten, IsUnfilled, StandsForError}
+use Rattle.patch_place.specs.Tables.{AreErrorsAmong, IsBeaten, IsUnfilled, StandsForError}
 use Rattle.patch_picks.proofs.Counting.{All-each, All-slice_get, AllZip-same, AllZip-weaker, first_at}
 use Rattle.patch_picks.proofs.Fitting.{all_over, over_parts}
 
@@ -70,8 +70,8 @@ uncounted error MayAsk count counted none list asked =
     (λ i placement at. counted.same placement (All-slice_get MayAsk list i placement asked at) ∙ none))
 
 -- errors without filled cells stand for themselves
-pub unfilled_stand : (tol : ℕ) (errors : List Error) → AreTableErrors tol errors errors
-unfilled_stand tol errors = AllZip-same (StandsForError tol errors) (λ error. inl refl) errors
+pub unfilled_stand : (tol : ℕ) (among errors : List Error) → AreErrorsAmong tol among errors errors
+unfilled_stand tol among errors = AllZip-same (StandsForError tol among) (λ error. inl refl) errors
 
 -- and has a cell
 pub box_has_cells : (output : Size) (sample : Cells) (rect : Box3) → 0 < length (part_lists (fit_list rect) sample) → All (Fits output sample) (part_lists (fit_list rect) sample) → HasCells rect.size

@@ -3,7 +3,7 @@ use Rattle.std.proofs.Common.{◌≡◌, ℕ, zero, suc, ◌+◌, ◌*◌, ◌^�
 use Rattle.std.proofs.Math.Seq.{take-append_seam}
 use Rattle.std.proofs.lemmas.Bool.{lt-leb, lt-ltb}
 use Rattle.std.proofs.lemmas.List.{take-append-le}
-use Rattle.std.proofs.lemmas.List.Elements.{All-head, All-nil, All-push, All-tail, Contains-append_left, Contains-append_right, Contains-push_cases, length_all_zip}
+use Rattle.std.proofs.lemmas.List.Elements.{All-head, All-push, All-tail, Contains-append_left, Contains-append_right, Contains-push_cases, length_all_zip}
 use Rattle.std.proofs.lemmas.List.Sums.{count_by_more_yes, sum_by-append, sum_by-cons, sum_by-take-le}
 use Rattle.std.proofs.lemmas.Option.{get_or_from_slice_get, none-some, same_Some, slice_get_within}
 use Rattle.std.specs.Prelude.{◌⊎◌, ◌&&◌, nat_lt, All, IfSome, Option, Some, None, slice_get}
@@ -145,26 +145,14 @@ among_rivals tol (Some known) table error is = record {
 }
 
 -- a shortlist of nothing but errors without filled cells
-pub unfilled_short : (list : Shortlist) (errors : List Error) → list.near.items ≡ [] → list.best ≡ None → list.known ≡ None → length errors ≡ list.seen → All IsUnfilled errors → IsShortlist list errors
-unfilled_short list errors near best known seen all = record {
+pub unfilled_short : (list : Shortlist) (errors : List Error) → list.near.items ≡ [] → list.best ≡ None → length errors ≡ list.seen → All IsUnfilled errors → IsShortlist list errors
+unfilled_short list errors near best seen all = record {
   table = errors;
-  stands = subst (λ known. AreErrorsAmong list.tol (rivals known errors) errors errors) (sym known) (unfilled_stand list.tol errors);
+  stands = unfilled_stand list.tol (rivals list.known errors) errors;
   short = record {
     best_one = subst (IsBestOf errors) (sym best) all;
     kept = subst (λ kept. AreKept kept errors) (sym near) (none_kept errors all);
     length_is = sym seen;
-  };
-}
-
--- one of no errors yet
-pub begun_short : (list : Shortlist) → list.near.items ≡ [] → list.best ≡ None → list.seen ≡ 0 → IsShortlist list []
-begun_short list near best seen = record {
-  table = [];
-  stands = tt;
-  short = record {
-    best_one = subst (IsBestOf []) (sym best) (All-nil IsUnfilled);
-    kept = subst (λ kept. AreKept kept []) (sym near) (none_kept [] (All-nil IsUnfilled));
-    length_is = seen;
   };
 }
 

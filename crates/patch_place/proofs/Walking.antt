@@ -24,16 +24,7 @@ carry w i some = record { within = λ lt. turn (i / w) (i % w + 1) lt (omega (ar
         let whole_part : (i + 1) / w ≡ a = ap (λ n. n / w) e ∙ div-mul-add a w b lt in
         (omega (arith, div-add-mod' (i + 1) w, ap (λ n. n * w) whole_part, e), whole_part)
 
--- the place after one in raster order
-pub spot_along : (size : Size) (frames i : ℕ) (was now : Spot) → 1 ≤ size.w → was.x + 1 < size.w → now.x ≡ was.x + 1 → now.y ≡ was.y → now.f ≡ was.f → IsSpotAt size frames i was → IsSpotAt size frames (i + 1) now
-spot_along size frames i was now some lt x y f is =
-    let next = (carry size.w i some).within (subst (λ n. n + 1 < size.w) is.x lt) in
-    record {
-      x = omega (arith, x, is.x, next.0);
-      y = y ∙ is.y ∙ ap (λ n. n % size.h) (sym next.1);
-      f = f ∙ is.f ∙ ap (λ n. frames + n / size.h) (sym next.1);
-    }
-
+-- the place after the last one of a row
 pub spot_down : (size : Size) (frames i : ℕ) (was now : Spot) → 1 ≤ size.w → 1 ≤ size.h → size.w ≤ was.x + 1 → was.y + 1 < size.h → now.x ≡ 0 → now.y ≡ was.y + 1 → now.f ≡ was.f → IsSpotAt size frames i was → IsSpotAt size frames (i + 1) now
 spot_down size frames i was now some rows over lt x y f is =
     let next = (carry size.w i some).over (subst (λ n. size.w ≤ n + 1) is.x over) in

@@ -15,11 +15,6 @@ pub record IsSpotAt (size : Size) (frames i : ℕ) (spot : Spot) : Type 0 where
   pub y : spot.y ≡ i / size.w % size.h
   pub f : spot.f ≡ frames + i / size.w / size.h
 
--- the counts of the place after it
-abbrev pub IsNextSpot : Size → Spot → Spot → Type 0
-IsNextSpot size spot next =
-    (frames i : ℕ) → IsSpotAt size frames i spot → IsSpotAt size frames (i + 1) next
-
 -- the entries of the part after the first n, in which a box has so much room
 abbrev pub room_entries : Box3 → List Size → ℕ → Size → List Placement
 room_entries rect sizes n free =

@@ -2,11 +2,9 @@
 -- nobody has to trust this file.
 use Rattle.std.specs.Prelude.{◌≡◌, ◌≤◌, ◌<◌, ◌+◌, ◌*◌, ◌^◌, ◌⊎◌, ◌++◌, ◌∷◌, [], ℕ, Bool, true, false, List, length, map, take, All, Contains, IfSome, Option, Some, None, slice_get}
 use Rattle.std.specs.List.{AllZip, count_by}
-use Rattle.cells.specs.declared.place.At.{At}
 use Rattle.cells.specs.declared.place.Box3.{Box3}
 use Rattle.cells.specs.declared.place.Size.{Size}
 use Rattle.cells.specs.Cells.{Cells, Holds}
-use Rattle.cells.specs.Places.{IsNearAxis}
 use Rattle.match_error.specs.declared.error.Error.{Error}
 use Rattle.match_error.specs.Errors.{is_within}
 use Rattle.map_canvas.specs.declared.canvas.Placement.{Placement}
@@ -169,12 +167,6 @@ abbrev pub IsLimitOf : Shortlist → ℕ → ℕ → Type 0
 IsLimitOf list count limit =
     (table : List Error) → IsBestOf table list.best
     → IsLimit list.tol (rivals list.known table) count limit
-
--- a step from the corner of a box to one of its cells is no longer on each axis
-pub record IsShortStep (step : At) : Type 0 where
-  pub x : IsNearAxis step.x
-  pub y : IsNearAxis step.y
-  pub f : IsNearAxis step.f
 
 -- a placement of a box from a place of the sample, and so one of its candidates
 pub record IsHeld (sample : Cells) (rect : Box3) (placement : Placement) : Type 0 where

@@ -1,5 +1,5 @@
 // Errors per filled cell: which is the best, and which entries of a shortlist are about as good.
-ghost use Rattle.std.specs.Prelude.{◌≡◌, ◌≤◌, ◌<◌, ◌*◌, ◌^◌, nat_lt, ◌++◌, [], ◌∷◌, List, All, IfSome, length};
+ghost use Rattle.std.specs.Prelude.{◌≡◌, ◌≤◌, ◌<◌, ◌^◌, ◌++◌, [], ◌∷◌, List, All, IfSome, length};
 ghost use Rattle.std.specs.List.{count_by};
 ghost use Rattle.match_error.specs.declared.error.Error.{Error};
 ghost use Rattle.patch_place.specs.BoxErrors.{IsLow};
@@ -15,16 +15,6 @@ pub(crate) struct Entry {
     pub(crate) index: u32,
 }
 
-// Whether an error is less than another per filled cell.
-fn is_less(error: &Error, other: &Error) -> bool
-    requires low { IsLow error.now × IsLow other.now }
-    ensures { result ≡ nat_lt (error.now.sum * other.now.count) (other.now.sum * error.now.count) }
-{
-    let least = u128::from(error.sum) * u128::from(other.count);
-    let most = u128::from(other.sum) * u128::from(error.count);
-    least < most
-}
-
 /// The best of some errors and one more.
 pub(crate) fn better(best: Option<Error>, error: &Error) -> Option<Error>
     requires best { IfSome best IsFilledLow }
@@ -33,16 +23,16 @@ pub(crate) fn better(best: Option<Error>, error: &Error) -> Option<Error>
         → IsBestOf (errors ++ error.now ∷ []) result }
     ensures low { IfSome result IsFilledLow }
 {
-    match best {
-        Some(other) => {
-            if is_less(error, &other) {
-                Some(*error)
-            } else {
-                Some(other)
-            }
-        }
-        None => Some(*error),
+    let Some(other) = best else {
+        return Some(*error);
+    };
+    // Errors are compared per filled cell.
+    let here = u128::from(error.sum) * u128::from(other.count);
+    let there = u128::from(other.sum) * u128::from(error.count);
+    if here < there {
+        return Some(*error);
     }
+    best
 }
 
 // Whether an entry is about as good as the best.

@@ -114,18 +114,22 @@ fn mean_error(list: &Candidates, canvas: &Canvas, sample: &Volume, is_wanted: bo
 }
 
 // About how many squares the sum of a candidate takes, which ends once it is past the limit, where a cell
-// differs by so much.
+// differs by so much; 0 where it isn't wanted.
 fn squares_for(
     short: &Shortlist,
     counts: &FilledCounts,
     mean: u64,
     canvas: &Canvas,
     at: &Placement,
+    is_wanted: bool,
 ) -> u64
     requires sound { IsSoundShortlist short.now }
     requires counts { AreFilledCounts canvas.now.map counts.now }
     requires inside { HoldsBox canvas.now.map.size at.now.rect.corner at.now.rect.size }
 {
+    if !is_wanted {
+        return 0;
+    }
     let count = counts.count(canvas, &at.rect);
     if count == 0 {
         return 0;
@@ -149,17 +153,14 @@ fn placed_shortlist(
     let around = around_of(list, canvas.map().size(), sample);
     let counts = FilledCounts::make(alloc, canvas, &around.rect)?;
     let rows = FilledRows::gather(alloc, canvas, &around.rect)?;
-    let filled = counts.count(canvas, &around.rect);
+    let filled = u64::from(counts.count(canvas, &around.rect));
     let mut errors = PartErrors::begin(&around, 0, canvas, sample);
-    let mean = mean_error(list, canvas, sample, errors.may_pay(u64::from(filled)));
-    let mut short = Shortlist::unfilled(alloc, tol, 0);
+    let mean = mean_error(list, canvas, sample, errors.may_pay(filled));
+    let mut short = Shortlist::begun(alloc, tol, None, 0);
     'entries: for i in 0..count_for(list, canvas, sample) {
         let placement = entry_for(list, canvas, sample, i);
-        let squares = if errors.may_pay(u64::from(filled)) {
-            squares_for(&short, &counts, mean, canvas, &placement)
-        } else {
-            0
-        };
+        let may_pay = errors.may_pay(filled);
+        let squares = squares_for(&short, &counts, mean, canvas, &placement, may_pay);
         errors.come_to(alloc, &around, squares, canvas, sample, &placement)?;
         short.add(&counts, &rows, &errors, canvas, sample, &placement)?;
     }

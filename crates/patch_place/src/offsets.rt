@@ -1,5 +1,5 @@
 // The errors of laid parts at all offsets at once, where these cost less than one sum for each candidate.
-ghost use Rattle.std.specs.Prelude.{◌≡◌, ◌≤◌, ◌<◌, ◌^◌, IfOk, IfSome, IsTrue, None, OnOk, length};
+ghost use Rattle.std.specs.Prelude.{◌≡◌, ◌≤◌, ◌<◌, ◌^◌, IfOk, IfSome, None, OnOk, length};
 ghost use Rattle.cells.specs.Boxes.{HasCells, HoldsBox};
 ghost use Rattle.cells.specs.Cells.{sizes_of};
 ghost use Rattle.cells.specs.Places.{HasAxes};
@@ -9,7 +9,7 @@ ghost use Rattle.match_error.specs.Errors.{error_sum};
 ghost use Rattle.offset_errors.specs.Errors.{AreErrors, IsEnough};
 
 use crate::reach::Around;
-use boxes::count_of;
+use boxes::{count_of, has_cells};
 use cells::{At, Box3, Size, Volume};
 use map_canvas::{Canvas, Placement};
 use offset_errors::{Layout, OffsetErrors};
@@ -90,21 +90,18 @@ fn met_part(around: &Around, part: Size) -> Size
 }
 
 // How the box and the first cells of a part are laid out, where a cell of the part's first half comes to one
-// of the box.
+// of the box. None where the box has no cell, or no transform is large enough.
 fn layout_for(around: &Around, part: Size, met: Size) -> Option<Layout>
-    requires rect { HasAxes around.now.rect.size }
+    requires rect { HasCells around.now.rect.size → HasAxes around.now.rect.size }
     requires part { HasAxes part }
     requires met { HasAxes met }
-    ensures { IfSome result (IsEnough around.now.rect.size met) }
+    ensures rect { IfSome result (λ layout. HasAxes around.now.rect.size) }
+    ensures enough { IfSome result (IsEnough around.now.rect.size met) }
 {
+    if !has_cells(around.rect.size) {
+        return None;
+    }
     Layout::make(around.rect.size, met, lead_of(around), first_half(part))
-}
-
-// Whether a box has a cell.
-fn has_cells(size: Size) -> bool
-    ensures { IsTrue result → HasCells size }
-{
-    size.w > 0 && size.h > 0 && size.f > 0
 }
 
 // The errors of a part laid over a box of the output; None where no transform is large enough.
@@ -124,9 +121,6 @@ fn errors_of(
     let map = canvas.map();
     let _sample = sample.samples();
     let rect = &around.rect;
-    if !has_cells(rect.size) {
-        return Ok(None);
-    }
     let sizes = parts_of(sample);
     let size = part_after(&sizes, n);
     let met = met_part(around, size);
@@ -167,12 +161,7 @@ impl PartErrors {
         // Called for its contract only: it shows the prover that the map's size is small.
         let _map = canvas.map();
         let size = part_after(&parts_of(sample), n);
-        let layout = if has_cells(around.rect.size) {
-            layout_for(around, size, met_part(around, size))
-        } else {
-            None
-        };
-        let worth = match layout {
+        let worth = match layout_for(around, size, met_part(around, size)) {
             Some(layout) => (SQUARES_A_LEVEL * u64::from(layout.levels())) << layout.levels(),
             None => u64::MAX,
         };

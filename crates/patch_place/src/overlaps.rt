@@ -1,15 +1,13 @@
 // The overlap errors of the placements of one box.
 ghost use Rattle.std.specs.Prelude.{◌≡◌, ◌≤◌, ◌<◌, ◌+◌, ◌*◌, ◌≤ℤ◌, pos, IfOk};
 ghost use Rattle.cells.specs.Boxes.{HasCells, HoldsBox};
-ghost use Rattle.cells.specs.Places.{HasAxes};
 ghost use Rattle.map_canvas.specs.Canvases.{StandsOver};
 ghost use Rattle.match_error.specs.Errors.{error_of};
 ghost use Rattle.search_squares.specs.declared.joint.TheConstants.{MOST_TIMES};
 ghost use Rattle.search_squares.specs.Eliminations.{AreEliminatedBy, AreSampleSums, error_from};
-ghost use Rattle.patch_place.specs.Tables.{IsShortStep};
 
 use crate::BoxErrors;
-use cells::{At, Box3, Size, Volume};
+use cells::{At, Box3, Volume};
 use limits::GREATEST_AXIS;
 use map_canvas::{Canvas, Placement};
 use match_error::{FilledRuns, filled_count};
@@ -39,20 +37,6 @@ fn spread(len: u32, i: u32) -> i32
     ensures { (pos 0 ≤ℤ result) × (result ≤ℤ pos GREATEST_AXIS) }
 {
     ((len - 1) * i / 3) as i32
-}
-
-// One of 16 cells spread over the rows and columns of a box, in its first frame or, every other
-// one, in its last, as a step from the corner.
-fn spread_step(size: Size, i: u32) -> At
-    requires axes { HasAxes size }
-    requires few { i < 16 }
-    ensures { IsShortStep result }
-{
-    At {
-        x: spread(size.w, i % 4),
-        y: spread(size.h, i / 4),
-        f: spread(size.f, (i + i / 4) % 2 * 3),
-    }
 }
 
 impl Overlaps<'_> {
@@ -187,9 +171,15 @@ impl BoxErrors for Overlaps<'_> {
                 .levels
                 .likely(self.sums, self.canvas, self.sample, &self.rect, number);
         }
-        // The box goes on from there with what is at one of 16 cells of it, where that is filled.
+        // The box goes on from there with what is at one of 16 cells of it, where that is filled. They are
+        // spread over its rows and columns, in its first frame or, every other one, in its last.
         let map = self.canvas.map();
-        let step = spread_step(self.rect.size, i);
+        let size = self.rect.size;
+        let step = At {
+            x: spread(size.w, i % 4),
+            y: spread(size.h, i / 4),
+            f: spread(size.f, (i + i / 4) % 2 * 3),
+        };
         let source = map.at(self.rect.corner.plus(step))?;
         Some(source.minus(step))
     }

@@ -44,29 +44,6 @@ fn greatest_part(sample: &Volume) -> Size {
     greatest
 }
 
-// The box of all cells of the output that parts of at most this size may have, where a cell of their
-// first half comes to q.
-fn reach_of(output: Size, part: Size, q: At) -> Box3
-    requires { IsSmall output }
-    ensures { HoldsBox output result.corner result.size }
-{
-    let x = reach_on(output.w, part.w, count_of(q.x));
-    let y = reach_on(output.h, part.h, count_of(q.y));
-    let f = reach_on(output.f, part.f, count_of(q.f));
-    Box3 {
-        corner: At {
-            x: x.corner as i32,
-            y: y.corner as i32,
-            f: f.corner as i32,
-        },
-        size: Size {
-            w: x.len,
-            h: y.len,
-            f: f.len,
-        },
-    }
-}
-
 /// Where all candidates are: the box of their filled cells, and the cell that comes to the first half of each.
 #[derive(Clone, Copy, Drop)]
 pub(crate) struct Around {
@@ -81,10 +58,27 @@ pub(crate) fn around_of(list: &Candidates, output: Size, sample: &Volume) -> Aro
     ensures { HoldsBox output result.rect.corner result.rect.size }
 {
     match list {
-        Candidates::Laid { q } => Around {
-            rect: reach_of(output, greatest_part(sample), *q),
-            q: *q,
-        },
+        Candidates::Laid { q } => {
+            // All cells that a part may have, a cell of whose first half comes to q.
+            let part = greatest_part(sample);
+            let x = reach_on(output.w, part.w, count_of(q.x));
+            let y = reach_on(output.h, part.h, count_of(q.y));
+            let f = reach_on(output.f, part.f, count_of(q.f));
+            let corner = At {
+                x: x.corner as i32,
+                y: y.corner as i32,
+                f: f.corner as i32,
+            };
+            let size = Size {
+                w: x.len,
+                h: y.len,
+                f: f.len,
+            };
+            Around {
+                rect: Box3 { corner, size },
+                q: *q,
+            }
+        }
         Candidates::One(_) | Candidates::Fits { .. } => {
             let corner = At { x: 0, y: 0, f: 0 };
             let size = Size { w: 0, h: 0, f: 0 };

@@ -1,5 +1,5 @@
 // Shortlists: of many candidates those that may be eligible.
-ghost use Rattle.std.specs.Prelude.{◌≡◌, ◌≤◌, ◌<◌, ◌+◌, ◌^◌, [], All, IfSome, List, None, OnOk, length};
+ghost use Rattle.std.specs.Prelude.{◌≡◌, ◌≤◌, ◌<◌, ◌+◌, ◌^◌, All, IfSome, List, None, OnOk, length};
 ghost use Rattle.match_error.specs.declared.error.Error.{Error};
 ghost use Rattle.patch_picks.specs.Steps.{after_draw};
 ghost use Rattle.patch_place.specs.BoxErrors.{IsLow};
@@ -49,38 +49,21 @@ fn limit_by(tol: u32, best: &Option<Error>, count: u32) -> u64
 }
 
 impl Shortlist {
-    /// So many candidates, none of which has a filled cell.
-    pub(crate) fn unfilled(alloc: Global, tol: u32, seen: u32) -> Shortlist
+    /// So many candidates, none of which has a filled cell. The error of one of those that come may be known.
+    pub(crate) fn begun(alloc: Global, tol: u32, known: Option<Error>, seen: u32) -> Shortlist
+        requires { IfSome known IsFilledLow }
         ensures short { (errors : List Error) → All IsUnfilled errors → length errors ≡ seen
             → IsShortlist result errors }
         ensures sound { IsSoundShortlist result }
         ensures tol { result.tol ≡ tol }
-        ensures known { result.known ≡ None }
+        ensures known { result.known ≡ known }
         ensures seen { result.seen ≡ seen }
     {
         Shortlist {
             near: Vec::new(alloc),
             best: None,
-            known: None,
-            seen,
-            tol,
-        }
-    }
-
-    /// No candidate yet, where the error of one of those that come may be known.
-    pub(crate) fn begun(alloc: Global, tol: u32, known: Option<Error>) -> Shortlist
-        requires { IfSome known IsFilledLow }
-        ensures short { IsShortlist result [] }
-        ensures sound { IsSoundShortlist result }
-        ensures tol { result.tol ≡ tol }
-        ensures known { result.known ≡ known }
-        ensures seen { result.seen ≡ 0 }
-    {
-        Shortlist {
-            near: Vec::new(alloc),
-            best: None,
             known,
-            seen: 0,
+            seen,
             tol,
         }
     }

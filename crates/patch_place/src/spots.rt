@@ -1,7 +1,7 @@
 // Places of a part, walked in raster order.
 ghost use Rattle.std.specs.Prelude.{◌≡◌, ◌≤◌, ◌<◌, ◌+◌, ◌^◌, ℕ};
 ghost use Rattle.cells.specs.Places.{spot};
-ghost use Rattle.patch_place.specs.Spots.{IsNextSpot, IsSpotAt};
+ghost use Rattle.patch_place.specs.Spots.{IsSpotAt};
 
 use cells::{At, Size};
 
@@ -28,29 +28,8 @@ impl Spot {
         }
     }
 
-    // The place after this one in raster order; the frames go on without an end.
-    pub(crate) fn next(self, size: Size) -> Spot
-        requires rows { (1 ≤ size.w) × (1 ≤ size.h) }
-        requires x { self.x < 2 ^ 31 }
-        requires y { self.y < 2 ^ 31 }
-        requires f { self.f < 2 ^ 31 }
-        ensures { IsNextSpot size self result }
-    {
-        let Spot { x, y, f } = self;
-        if x + 1 < size.w {
-            return Spot { x: x + 1, y, f };
-        }
-        if y + 1 < size.h {
-            return Spot { x: 0, y: y + 1, f };
-        }
-        Spot {
-            x: 0,
-            y: 0,
-            f: f + 1,
-        }
-    }
-
-    // The place so many after this one in raster order, where all places before it are in this one's row.
+    // The place so many after this one in raster order, where all places before it are in this one's row; the
+    // frames go on without an end.
     pub(crate) fn after(self, size: Size, n: u32) -> Spot
         requires rows { (1 ≤ size.w) × (1 ≤ size.h) }
         requires some { 1 ≤ n }
@@ -62,11 +41,16 @@ impl Spot {
             → IsSpotAt size frames (i + n) result }
     {
         let Spot { x, y, f } = self;
-        let last = Spot {
-            x: x + (n - 1),
-            y,
-            f,
-        };
-        last.next(size)
+        if x + n < size.w {
+            return Spot { x: x + n, y, f };
+        }
+        if y + 1 < size.h {
+            return Spot { x: 0, y: y + 1, f };
+        }
+        Spot {
+            x: 0,
+            y: 0,
+            f: f + 1,
+        }
     }
 }

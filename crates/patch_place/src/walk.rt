@@ -105,7 +105,7 @@ impl Shortlist {
                 continue 'entries;
             }
             limit = self.add_one(errors, &placement, count, limit)?;
-            spot = spot.next(free);
+            spot = spot.after(free, 1);
             done += 1;
         }
         Ok(())
@@ -128,11 +128,11 @@ pub(crate) fn box_shortlist<E: BoxErrors>(
 {
     let count = errors.count();
     if count == 0 {
-        return Ok(Shortlist::unfilled(alloc, tol, box_count(rect, sample)));
+        return Ok(Shortlist::begun(alloc, tol, None, box_count(rect, sample)));
     }
     let sizes = parts_of(sample);
     let known = least_hint(errors, rect, sample, count);
-    let mut short = Shortlist::begun(alloc, tol, known);
+    let mut short = Shortlist::begun(alloc, tol, known, 0);
     'parts: for n in 0..sizes.len() {
         short.add_part(errors, rect, count, &sizes, n)?;
     }

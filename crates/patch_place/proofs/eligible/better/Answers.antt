@@ -1,16 +1,17 @@
 use Rattle.std.proofs.lemmas.Grind.{common_steps}
-use Rattle.std.proofs.Common.{subst, sym, ◌∙◌, arith}
-use Rattle.std.proofs.lemmas.Bool.{ltb-true}
+use Rattle.std.proofs.Common.{◌≡◌, ◌*◌, subst, arith}
 use Rattle.patch_place.specs.Tables.{IsBestOf}
 use Rattle.patch_picks.proofs.Bests.{best_of_less}
 use Rattle.patch_place.proofs.eligible.better.Goals as goal
 
-pub returns-then-is_less-clause-best : goal.returns-then-is_less-clause-best
-returns-then-is_less-clause-best c = λ errors is.
-    best_of_less c.in-Some.other c.args.error.now (omega arith) (ltb-true _ _ (sym c.is_less.ensures ∙ c.if-is_less.true)) errors (subst (IsBestOf errors) c.in-Some.is is)
+pub returns-then-here-there-clause-best : goal.returns-then-here-there-clause-best
+returns-then-here-there-clause-best c = λ errors is.
+    let here : c.from.result * c.from-2.result ≡ c.args.error.now.sum * c.in-Some.other.count = λ k. c.from.ensures k * c.from-2.ensures k in
+    let there : c.from-3.result * c.from-4.result ≡ c.in-Some.other.sum * c.args.error.now.count = λ k. c.from-3.ensures k * c.from-4.ensures k in
+    best_of_less c.in-Some.other c.args.error.now (omega arith) (omega (arith, here, there, c.if-here-there.true)) errors (subst (IsBestOf errors) c.in-Some.is is)
 
-pub returns-else-is_less-clause-best : goal.returns-else-is_less-clause-best
-returns-else-is_less-clause-best c = grind (arith, common_steps)
+pub returns-clause-best : goal.returns-clause-best
+returns-clause-best c = grind (arith, common_steps)
 
-pub returns-in-None-clause-best : goal.returns-in-None-clause-best
-returns-in-None-clause-best c = grind (arith, common_steps)
+pub returns-in_default-clause-best : goal.returns-in_default-clause-best
+returns-in_default-clause-best c = grind (arith, common_steps)

@@ -38,8 +38,8 @@ returns c =
 pub begin-errors-requires-clause-held : goal.begin-errors-requires-clause-held
 begin-errors-requires-clause-held c = rw (c.size.ensures.size ∙ (λ t. (c.map.ensures.map t).size)) at c.around_of-around.ensures
 
-pub count-filled-requires-clause-inside : goal.count-filled-requires-clause-inside
-count-filled-requires-clause-inside c = rw (c.size.ensures.size ∙ (λ t. (c.map.ensures.map t).size)) at c.around_of-around.ensures
+pub count-requires-clause-inside : goal.count-requires-clause-inside
+count-requires-clause-inside c = rw (c.size.ensures.size ∙ (λ t. (c.map.ensures.map t).size)) at c.around_of-around.ensures
 
 pub squares_for-squares-requires-clause-inside : goal.squares_for-squares-requires-clause-inside
 squares_for-squares-requires-clause-inside c = (c.entry_for-placement.ensures.fits c.requires.fit).inside
@@ -52,11 +52,11 @@ around_of-around-requires c = grind (arith, common_steps)
 
 pub entries-init : goal.entries-init
 entries-init c = record {
-  short = c.unfilled-short.ensures.short [] (search rules) refl;
-  sound = c.unfilled-short.ensures.sound;
-  seen = c.unfilled-short.ensures.seen;
-  tol = c.unfilled-short.ensures.tol;
-  known = c.unfilled-short.ensures.known;
+  short = c.begun-short.ensures.short [] (search rules) refl;
+  sound = c.begun-short.ensures.sound;
+  seen = c.begun-short.ensures.seen;
+  tol = c.begun-short.ensures.tol;
+  known = c.begun-short.ensures.known;
   errors = grind (arith, common_steps);
   part = grind (arith, common_steps);
 }

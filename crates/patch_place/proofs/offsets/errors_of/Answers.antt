@@ -4,12 +4,11 @@ use Rattle.std.proofs.Math.Facts.{to_z_pos}
 use Rattle.std.proofs.lemmas.Int.{ints}
 use Rattle.std.specs.Int.{w32}
 use Rattle.std.specs.Prelude.{pos, ◌+ℤ◌, Some, slice_get}
-use Rattle.cells.specs.declared.place.At.{At}
-use Rattle.cells.specs.declared.place.Size.{Size}
-use Rattle.cells.specs.Boxes.{HasCells, HoldsBox}
+use Rattle.cells.specs.Boxes.{HoldsBox}
 use Rattle.cells.specs.Cells.{Holds, sizes_of}
-use Rattle.cells.specs.Places.{HasAxes, IsSmall, spot}
+use Rattle.cells.specs.Places.{spot}
 use Rattle.cells.specs.SizeLists.{frames_to_part}
+use Rattle.cells.proofs.BoxLaws.{box_small}
 use Rattle.patch_picks.proofs.Stocks.{part_held, stock_moved}
 use Rattle.patch_place.proofs.offsets.errors_of.Goals as goal
 
@@ -38,18 +37,11 @@ gather-requires-clause-inside c = grind (arith, common_steps)
 pub frames_before-f-requires-clause-below : goal.frames_before-f-requires-clause-below
 frames_before-f-requires-clause-below c = grind (arith, common_steps)
 
-rect_axes : (output : Size) (corner : At) (size : Size) → IsSmall output → HoldsBox output corner size → HasCells size → HasAxes size
-rect_axes output corner size small held some = record {
-  w = (some.w, omega (arith, ints, held.x.from, held.x.to, small.axes.w.1));
-  h = (some.h, omega (arith, ints, held.y.from, held.y.to, small.axes.h.1));
-  f = (some.f, omega (arith, ints, held.f.from, held.f.to, small.axes.f.1));
-}
-
 pub gather-requires-clause-rect : goal.gather-requires-clause-rect
-gather-requires-clause-rect c = rect_axes _ _ _ c.map-map.ensures.canvas.map.small c.requires.held (c.has_cells.ensures c.if-not-has_cells.false)
+gather-requires-clause-rect c = c.in-Some.ensures.rect
 
 pub layout_for-requires-clause-rect : goal.layout_for-requires-clause-rect
-layout_for-requires-clause-rect c = rect_axes _ _ _ c.map-map.ensures.canvas.map.small c.requires.held (c.has_cells.ensures c.if-not-has_cells.false)
+layout_for-requires-clause-rect c = λ some. (box_small c.args.canvas.now.map.size c.args.around.now.rect.corner c.args.around.now.rect.size c.map-map.ensures.canvas.map.small some c.requires.held).axes
 
 pub part_after-size-requires-clause-below : goal.part_after-size-requires-clause-below
 part_after-size-requires-clause-below c = grind (arith, common_steps)

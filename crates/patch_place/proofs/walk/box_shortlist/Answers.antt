@@ -1,10 +1,11 @@
-use Rattle.std.proofs.Common.{◌≡◌, ap, arith, length, map, sym, subst, ◌∙◌}
+use Rattle.std.proofs.Common.{◌≡◌, [], ap, refl, arith, length, map, sym, subst, ◌∙◌}
 use Rattle.std.proofs.lemmas.List.{length-map}
+use Rattle.std.proofs.lemmas.List.Elements.{All-nil}
 use Rattle.std.specs.Prelude.{All, Contains, IfSome}
 use Rattle.patch_place.specs.BoxErrors.{box_list}
 use Rattle.patch_picks.specs.Lists.{fit_list, lists_from}
 use Rattle.patch_picks.proofs.PartLists.{before_all}
-use Rattle.patch_place.specs.Tables.{IsShortlist}
+use Rattle.patch_place.specs.Tables.{IsShortlist, IsUnfilled}
 use Rattle.patch_place.proofs.BoxWalk.{none_seen}
 use Rattle.patch_place.proofs.Limits.{uncounted}
 use Rattle.patch_place.proofs.walk.box_shortlist.Goals as goal
@@ -15,16 +16,16 @@ returns-then-count-eq0 g c =
     let list = box_list c.args.rect.now c.args.sample.now in
     record {
       short =
-          c.unfilled.ensures.short (map f list) (uncounted f (g.E.BoxErrors.MayAsk c.args.errors.now) c.count-count.result c.count-count.ensures (omega (arith, c.if-count-eq0.true)) list c.requires.asked)
+          c.begun.ensures.short (map f list) (uncounted f (g.E.BoxErrors.MayAsk c.args.errors.now) c.count-count.result c.count-count.ensures (omega (arith, c.if-count-eq0.true)) list c.requires.asked)
           (length-map list f ∙ sym c.box_count.ensures);
-      sound = c.unfilled.ensures.sound;
-      tolerance = c.unfilled.ensures.tol;
-      known = subst (λ known. IfSome known (Contains (map f list))) (sym c.unfilled.ensures.known) tt;
+      sound = c.begun.ensures.sound;
+      tolerance = c.begun.ensures.tol;
+      known = subst (λ known. IfSome known (Contains (map f list))) (sym c.begun.ensures.known) tt;
     }
 
 pub parts-init : goal.parts-init
 parts-init g c = record {
-  done = c.begun-short.ensures.short;
+  done = c.begun-short.ensures.short [] (All-nil IsUnfilled) refl;
   seen = none_seen c.args.rect.now c.parts_of-sizes.result c.begun-short.result.seen c.begun-short.ensures.seen;
   sound = c.begun-short.ensures.sound;
   tol = c.begun-short.ensures.tol;

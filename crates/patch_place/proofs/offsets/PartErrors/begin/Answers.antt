@@ -1,9 +1,10 @@
 use Rattle.std.proofs.Common.{arith}
 use Rattle.std.proofs.lemmas.Grind.{common_steps}
+use Rattle.cells.proofs.BoxLaws.{box_small}
 use Rattle.patch_place.proofs.offsets.PartErrors.begin.Goals as goal
 
-pub layout_for-layout-requires-clause-rect : goal.layout_for-layout-requires-clause-rect
-layout_for-layout-requires-clause-rect c = grind (arith, common_steps)
+pub layout_for-requires-clause-rect : goal.layout_for-requires-clause-rect
+layout_for-requires-clause-rect c = λ some. (box_small c.args.canvas.now.map.size c.args.around.now.rect.corner c.args.around.now.rect.size c.map-map.ensures.canvas.map.small some c.requires.held).axes
 
 pub overflow_shl-worth : goal.overflow_shl-worth
 overflow_shl-worth c = grind (arith, common_steps)

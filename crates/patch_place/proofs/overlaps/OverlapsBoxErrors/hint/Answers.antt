@@ -7,6 +7,3 @@ minus-requires c = grind (arith, common_steps)
 
 pub plus-requires : goal.plus-requires
 plus-requires c = grind (arith, common_steps)
-
-pub spread_step-step-requires-clause-axes : goal.spread_step-step-requires-clause-axes
-spread_step-step-requires-clause-axes c = grind (arith, common_steps)

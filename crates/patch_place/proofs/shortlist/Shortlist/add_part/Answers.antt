@@ -67,7 +67,7 @@ entries-preserved g c =
       tol = c.add_one.ensures.tol ∙ c.entries.invariant.tol;
       known = c.add_one.ensures.known ∙ c.entries.invariant.known;
       run = subst (AreEliminatedBy (sum_from f c.args.rect.now)) (sym c.count_from.ensures.run) c.go_to.ensures;
-      spot = c.next-spot.ensures (frames_to_part sizes c.args.n) c.entries.done c.entries.invariant.spot;
+      spot = c.after-spot-in-entries.ensures (frames_to_part sizes c.args.n) c.entries.done c.entries.invariant.spot;
     }
 
 pub overflow_sub-free : goal.overflow_sub-free
@@ -127,20 +127,20 @@ returns-clause-seen g c =
     subst (IsSeenTo c.args.rect.now c.args.sizes.now (c.args.n + 1)) (sym end)
     (box_step c.args.rect.now c.args.sizes.now c.args.n c.args.self.now.seen c.part_after.result c.room-free.result c.part_after.ensures.size c.room-free.ensures.room c.requires.seen)
 
-pub next-spot-requires-clause-rows : goal.next-spot-requires-clause-rows
-next-spot-requires-clause-rows g c = let has = cells_of_index c.room-free.result c.entries.done (omega (arith, c.place_count-all.ensures, c.entries-test.true)) in (has.w, has.h)
+pub after-spot-requires-in-entries-clause-rows : goal.after-spot-requires-in-entries-clause-rows
+after-spot-requires-in-entries-clause-rows g c = let has = cells_of_index c.room-free.result c.entries.done (omega (arith, c.place_count-all.ensures, c.entries-test.true)) in (has.w, has.h)
 
 pub after-spot-requires-clause-rows : goal.after-spot-requires-clause-rows
 after-spot-requires-clause-rows g c = let has = cells_of_index c.room-free.result c.entries.done (omega (arith, c.place_count-all.ensures, c.entries-test.true)) in (has.w, has.h)
 
-pub next-spot-requires-clause-f : goal.next-spot-requires-clause-f
-next-spot-requires-clause-f g c = grind (arith, common_steps)
+pub after-spot-requires-in-entries-clause-f : goal.after-spot-requires-in-entries-clause-f
+after-spot-requires-in-entries-clause-f g c = grind (arith, common_steps)
 
-pub next-spot-requires-clause-y : goal.next-spot-requires-clause-y
-next-spot-requires-clause-y g c = grind (arith, common_steps)
+pub after-spot-requires-in-entries-clause-y : goal.after-spot-requires-in-entries-clause-y
+after-spot-requires-in-entries-clause-y g c = grind (arith, common_steps)
 
-pub next-spot-requires-clause-x : goal.next-spot-requires-clause-x
-next-spot-requires-clause-x g c = grind (arith, common_steps)
+pub after-spot-requires-in-entries-clause-x : goal.after-spot-requires-in-entries-clause-x
+after-spot-requires-in-entries-clause-x g c = grind (arith, common_steps)
 
 pub add_one-requires-clause-counted : goal.add_one-requires-clause-counted
 add_one-requires-clause-counted g c = grind (arith, common_steps)

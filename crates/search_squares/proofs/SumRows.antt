@@ -5,12 +5,11 @@ use Rattle.std.proofs.lemmas.List.{get_or_append_left, get_or-append-add, get_or
 use Rattle.std.proofs.lemmas.Nat.{mod-mul-add, div-mul-add}
 use Rattle.cells.specs.declared.place.Box3.{Box3}
 use Rattle.cells.specs.declared.place.Size.{Size}
-use Rattle.cells.specs.Boxes.{HasCells}
 use Rattle.cells.specs.Cells.{Cells}
 use Rattle.cells.specs.Places.{IsSmall}
 use Rattle.cells.proofs.Raster.{below_of_div, in_rows}
 use Rattle.search_squares.specs.declared.sums.TheConstants.{LANES}
-use Rattle.search_squares.specs.Sums.{AreCellSums, AreBlockEntries, ArePut, AreRows, IsCellSum}
+use Rattle.search_squares.specs.Sums.{AreCellSums, ArePut, AreRows, IsCellSum}
 
 module _ (Is : ℕ → ℕ → Type 0) where
   pub none_put : (was : List ℕ) → ArePut Is 0 was was
@@ -35,12 +34,6 @@ module _ (Is : ℕ → ℕ → Type 0) where
 
       last : get_or (now ++ v ∷ []) (length was + count) 0 ≡ v
       last = ap (λ n. get_or (now ++ v ∷ []) n 0) here ∙ get_or-append-add now (v ∷ []) 0 0
-
--- two numbers whose product isn't 0
-factors : (a b : ℕ) → 0 < a * b → (1 ≤ a) × (1 ≤ b)
-factors zero b lt = absurd (omega arith)
-factors (suc a) zero lt = absurd (omega arith)
-factors (suc a) (suc b) lt = (omega arith, omega arith)
 
 -- the two parts of an index in rows of n
 pub index_parts : (n x y : ℕ) → x < n → ((x + n * y) % n ≡ x) × ((x + n * y) / n ≡ y)
@@ -67,21 +60,6 @@ module _ (Is : ℕ → ℕ → ℕ → ℕ → Type 0) (size : Size) where
         subst (Is (row % size.h) (row / size.h) x) (sym (put.kept (size.w * row + x) (omega (arith, are.long, in_rows size.w rows row x lx le)))) (are.each x row lx le))
         (cases_eq row rows);
   }
-
-  -- a box without cells has all its rows
-  pub no_cells : (HasCells size → ⊥) → AreRows Is size (size.h * size.f) []
-  no_cells none = record {
-    long = ⊎_elim (λ lt. absurd (none (cells lt))) (λ le. omega arith) (cases_lt 0 (size.w * (size.h * size.f)));
-    each = λ x row lx lr.
-        let rest = factors size.h size.f (omega arith) in
-        absurd (none (record { w = omega arith; h = rest.0; f = rest.1 }));
-  }
-    where
-      cells : 0 < size.w * (size.h * size.f) → HasCells size
-      cells lt =
-          let first = factors size.w (size.h * size.f) lt in
-          let rest = factors size.h size.f (omega (arith, first.1)) in
-          record { w = first.0; h = rest.0; f = rest.1 }
 
   -- the entry of a place, whatever comes after the rows
   pub entry : (entries more : List ℕ) → AreRows Is size (size.h * size.f) entries → (x y f : ℕ) → x < size.w → y < size.h → f < size.f → Is y f x (get_or (entries ++ more) (x + size.w * (y + size.h * f)) 0)
@@ -122,10 +100,3 @@ module _ (sample : Cells) (rect : Box3) where
             (λ le. subst (λ v. v ≤ 255 * sample.k) (sym (get_or-append_right entries more (length entries) i 0 refl le ∙ zeros LANES (i - length entries))) (omega arith))
             (cases_lt i (length entries));
       }
-
--- a box without cells has no entries but the last ones
-pub no_entries : (sample : Cells) (rect : Box3) (side : ℕ) → 1 ≤ side → (HasCells rect.size → ⊥) → AreBlockEntries sample rect side (replicate LANES 0)
-no_entries sample rect side some none = record {
-  long = omega (arith, length-replicate {A = ℕ} LANES 0, (no_cells (λ _ _ _ _. Unit {0}) rect.size none).long);
-  each = λ x y f lx ly lf. absurd (none (record { w = omega (arith, lx, some); h = omega (arith, ly, some); f = omega (arith, lf) }));
-}

@@ -2,7 +2,7 @@
 ghost use Rattle.std.specs.Prelude.{◌≡◌, ◌≤◌, ◌<◌, ◌+◌, ◌*◌, ◌^◌, ℕ, IfSome, IsTrue, slice_index};
 ghost use Rattle.cells.specs.Places.{raster_index, spot};
 ghost use Rattle.search_squares.specs.Blocks.{AreBoxBlocks, HasEntry, block_bytes, blocks_difference};
-ghost use Rattle.search_squares.specs.Bounds.{AreAbove, IsBoxIn, MayBeLaid, place_along};
+ghost use Rattle.search_squares.specs.Bounds.{IsBoxIn, MayBeLaid, place_along};
 ghost use Rattle.search_squares.specs.Gathered.{HasShortRows, IsCellStep};
 ghost use Rattle.search_squares.specs.Sums.{AreBlockSums};
 
@@ -129,7 +129,7 @@ impl BoxBlocks {
         totals
     }
 
-    // The same, by the blocks' own entries where those are counted by the size of the sums' box.
+    /// The same, by the blocks' own entries where those are counted by the size of the sums' box.
     pub(crate) fn totals(
         &self,
         sums: &BlockSums,
@@ -155,37 +155,5 @@ impl BoxBlocks {
             return self.totals_by(sums, canvas, sample, rect, from, n, scale, true);
         }
         self.totals_by(sums, canvas, sample, rect, from, n, scale, false)
-    }
-
-    /// Of n places along X from one on, marks those that the box can't be laid from with an error up to the
-    /// limit, as far as the blocks show it: place j by the bit of 2^j. The box laid from each of them lies
-    /// in that of the sums.
-    pub(crate) fn above(
-        &self,
-        sums: &BlockSums,
-        canvas: &Canvas,
-        sample: &Volume,
-        rect: &Box3,
-        from: At,
-        n: u32,
-        limit: u64,
-    ) -> u32
-        requires blocks { AreBoxBlocks canvas.now rect.now self.now }
-        requires sums { AreBlockSums sample.now sums.now }
-        requires side { self.now.side ≡ sums.now.side }
-        requires few { n ≤ LANES }
-        requires laid { MayBeLaid canvas.now sample.now rect.now from n }
-        requires inside { (j : ℕ) → j < n
-            → IsBoxIn sums.now.rect (place_along from j) rect.now.size }
-        ensures { AreAbove canvas.now sample.now rect.now from n limit result }
-    {
-        if n == 0 {
-            return 0;
-        }
-        let Some(scale) = scale_of(self.side, sample.samples(), limit) else {
-            return 0;
-        };
-        let totals = self.totals(sums, canvas, sample, rect, from, n, scale);
-        marks(totals, scale.most)
     }
 }

@@ -1,6 +1,6 @@
 // Two boxes whose errors are added up, each taken so many times: which of a run of places are above a limit.
-ghost use Rattle.std.specs.Prelude.{◌≡◌, ◌≤◌, ◌<◌, ◌+◌, ◌*◌, ◌^◌, ℕ, IfSome};
-ghost use Rattle.search_squares.specs.Blocks.{AreBoxBlocks, block_bytes};
+ghost use Rattle.std.specs.Prelude.{◌≡◌, ◌≤◌, ◌<◌, ℕ};
+ghost use Rattle.search_squares.specs.Blocks.{AreBoxBlocks};
 ghost use Rattle.search_squares.specs.Bounds.{IsBoxIn, MayBeLaid, place_along};
 ghost use Rattle.search_squares.specs.Eliminations.{AreEliminatedBy};
 ghost use Rattle.search_squares.specs.Sums.{AreBlockSums};
@@ -31,37 +31,6 @@ pub struct Term<'a> {
     /// The box, and its blocks.
     pub rect: Box3,
     pub levels: &'a BoxLevels,
-}
-
-// How weighed totals are compared with a limit, in units of 2^16.
-#[derive(Clone, Copy, Drop)]
-struct JointScale {
-    // how many times differences are taken
-    factor: u16,
-    // the most that the totals may come to, weighed, where the errors do to the limit
-    most: u32,
-}
-
-// The scale for a limit: the factor is that of a hundredth of it. None where there isn't one.
-fn joint_scale(side: u32, k: u32, limit: u64) -> Option<JointScale>
-    requires some { 1 ≤ k }
-    requires few { 255 * block_bytes side k < 2 ^ 16 }
-    ensures { IfSome result (λ scale. scale.factor * scale.factor * (block_bytes side k * limit)
-        < 2 ^ 16 * (scale.most + 1)) }
-{
-    let scale = scale_of(side, k, limit / u64::from(MOST_TIMES))?;
-    let cells = side * side;
-    let bytes = cells * k;
-    let bound = u64::from(bytes).saturating_mul(limit);
-    let square = u64::from(scale.factor) * u64::from(scale.factor);
-    let most = bound.saturating_mul(square) >> 16;
-    if most > u64::from(u32::MAX) {
-        return None;
-    }
-    Some(JointScale {
-        factor: scale.factor,
-        most: most as u32,
-    })
 }
 
 // Of n places along X from one on, marks those from which the errors of the two boxes come to more than the limit, as
@@ -96,11 +65,22 @@ fn above_both(
     if n == 0 {
         return 0;
     }
-    let Some(scale) = joint_scale(sums.side, one.sample.samples(), limit) else {
+    // Differences are scaled as for a hundredth of the limit, and their totals compared with the whole of it.
+    let k = one.sample.samples();
+    let Some(scale) = scale_of(sums.side, k, limit / u64::from(MOST_TIMES)) else {
         return 0;
     };
+    let cells = sums.side * sums.side;
+    let bytes = cells * k;
+    let bound = u64::from(bytes).saturating_mul(limit);
+    let square = u64::from(scale.factor) * u64::from(scale.factor);
+    let most = bound.saturating_mul(square) >> 16;
+    if most > u64::from(u32::MAX) {
+        return 0;
+    }
+    let most = most as u32;
     // Where one term alone is above the limit in each place, the rest of its blocks needn't be seen.
-    let alone = (scale.most / one.times).min(u32::from(u16::MAX)) as u16;
+    let alone = (most / one.times).min(u32::from(u16::MAX)) as u16;
     let first = Scale {
         factor: scale.factor,
         most: alone,
@@ -111,7 +91,7 @@ fn above_both(
     };
     let totals = blocks.totals(sums, one.canvas, one.sample, &one.rect, at, n, first);
     let more = others.totals(sums, other.canvas, other.sample, &other.rect, at, n, second);
-    marks_of_terms(totals, one.times, more, other.times, scale.most)
+    marks_of_terms(totals, one.times, more, other.times, most)
 }
 
 // Those that the blocks of one level mark, by the sums of one part.

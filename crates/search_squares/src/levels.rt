@@ -11,14 +11,15 @@ ghost use Rattle.search_squares.specs.Gathered.{HasShortRows, MarkFilled};
 ghost use Rattle.search_squares.specs.Sums.{AreBlockSums, AreCellSums};
 
 use crate::blocks::{BoxBlocks, filled_cells};
+use crate::bound::scale_of;
 use crate::eliminated::Eliminated;
-use crate::lanes::{left_in, marks_of_both};
+use crate::lanes::{left_in, marks, marks_of_both};
 use crate::pauses::Pauses;
 use crate::places::{holds_run, places_to_end};
-use crate::rows::{has_cells, short_rows};
 use crate::sums::{BlockSums, LANES};
+use boxes::has_cells;
 use cells::{At, Box3, Size, Volume};
-use limits::MOST_CHANNELS;
+use limits::{GREATEST_AXIS, MOST_CHANNELS};
 use map_canvas::Canvas;
 use std::alloc::{AllocError, Global};
 
@@ -235,17 +236,17 @@ impl BoxLevels {
         let Some(first) = sums.levels.first() else {
             return Ok(levels);
         };
-        if !has_cells(rect.size) {
+        let size = first.rect.size;
+        if !has_cells(rect.size) || size.w > GREATEST_AXIS || size.h > GREATEST_AXIS {
             return Ok(levels);
         }
         let filled = filled_cells(alloc, canvas, rect)?;
-        let size = short_rows(first.rect.size);
         levels.add_all(alloc, canvas, rect, size, &filled)?;
         Ok(levels)
     }
 
-    // Those that the blocks of one level eliminate, by the sums of one part. None where the box, laid from one of
-    // the places, isn't in that of the sums.
+    // Those that the blocks of one level eliminate, as far as they show it, by the sums of one part: place j by the
+    // bit of 2^j. None where the box, laid from one of the places, isn't in that of the sums.
     fn level_marks(
         &self,
         level: usize,
@@ -272,12 +273,14 @@ impl BoxLevels {
         let Some(sums) = sums.levels.get(LEVELS * part as usize + level) else {
             return 0;
         };
-        // Called for its contract only: it shows the prover that the sample is a volume.
-        let _sample = sample.samples();
-        if blocks.side != sums.side || !holds_run(&sums.rect, rect.size, from, n) {
+        if n == 0 || blocks.side != sums.side || !holds_run(&sums.rect, rect.size, from, n) {
             return 0;
         }
-        blocks.above(sums, canvas, sample, rect, from, n, limit)
+        let Some(scale) = scale_of(blocks.side, sample.samples(), limit) else {
+            return 0;
+        };
+        let totals = blocks.totals(sums, canvas, sample, rect, from, n, scale);
+        marks(totals, scale.most)
     }
 
     // Those that the blocks of one of the levels eliminate. A finer level is left out where the coarser ones

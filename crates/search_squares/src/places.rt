@@ -3,8 +3,8 @@ ghost use Rattle.std.specs.Prelude.{◌≡◌, ◌≤◌, ◌<◌, ◌+◌, ◌-
 ghost use Rattle.cells.specs.Boxes.{AxisHolds, HasCells};
 ghost use Rattle.search_squares.specs.Bounds.{IsBoxIn, place_along};
 
-use crate::rows::has_cells;
 use crate::sums::LANES;
+use boxes::has_cells;
 use cells::{At, Box3, Size};
 
 /// How many cells there are from a coordinate to one past it or the same; None before it.

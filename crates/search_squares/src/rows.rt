@@ -1,7 +1,6 @@
 // What the blocks of a box and the sums of the sample are both made with: cells by their counts, where
 // they come in raster order, and the bytes of a row.
-ghost use Rattle.std.specs.Prelude.{◌≡◌, ◌≤◌, ◌<◌, ◌+◌, ◌*◌, ◌^◌, ◌↔◌, ℕ, IsTrue, drop, length, sum, take};
-ghost use Rattle.cells.specs.Boxes.{HasCells};
+ghost use Rattle.std.specs.Prelude.{◌≡◌, ◌≤◌, ◌<◌, ◌+◌, ◌*◌, ◌^◌, ℕ, drop, length, sum, take};
 ghost use Rattle.cells.specs.Places.{raster_index, spot};
 ghost use Rattle.search_squares.specs.Gathered.{HasShortRows, IsCellStep};
 
@@ -18,24 +17,6 @@ pub(crate) fn step_to(x: u32, y: u32, f: u32) -> At
         y: y as i32,
         f: f as i32,
     }
-}
-
-/// Whether a box of that size has a cell.
-pub(crate) fn has_cells(size: Size) -> bool
-    ensures { IsTrue result ↔ HasCells size }
-{
-    size.w > 0 && size.h > 0 && size.f > 0
-}
-
-/// A size whose rows and columns are no longer than the greatest axis: the one given, or that of no cell
-/// where they are.
-pub(crate) fn short_rows(size: Size) -> Size
-    ensures { HasShortRows result }
-{
-    if size.w > GREATEST_AXIS || size.h > GREATEST_AXIS {
-        return Size { w: 0, h: 0, f: 0 };
-    }
-    size
 }
 
 /// How many cells come before the one that a step leads to from the first, in raster order, in a box of a

@@ -4,10 +4,11 @@ ghost use Rattle.cells.specs.Boxes.{HasCells};
 ghost use Rattle.cells.specs.Cells.{Holds, IsVolume};
 ghost use Rattle.cells.specs.Places.{DifferenceFits, IsInside, IsSmall, index_in, minus};
 ghost use Rattle.search_squares.specs.Blocks.{block_bytes};
-ghost use Rattle.search_squares.specs.Sums.{AreAdded, AreBlockSums, AreCellSums, AreBlockEntries, ArePut, AreRows, IsCellSum, stepped_sum};
+ghost use Rattle.search_squares.specs.Sums.{AreAdded, AreBlockSums, AreCellSums, ArePut, AreRows, IsCellSum, stepped_sum};
 
 use crate::lanes::no_sums;
-use crate::rows::{byte_sum, cell_of, has_cells, step_to};
+use crate::rows::{byte_sum, cell_of, step_to};
+use boxes::has_cells;
 use cells::{At, Box3, Size, Volume};
 use std::alloc::{AllocError, Global};
 use std::simd::prelude::*;
@@ -93,33 +94,6 @@ fn add_up(entries: &mut [u16], step: usize, n: u32)
     }
 }
 
-// The sums of the blocks of a box, in raster order, and LANES entries more. They are made in the place of a
-// copy of the sums of its cells: first along the rows, then down the columns. A sum that runs past the end of
-// a row or of a frame is no block's.
-fn block_sums(
-    alloc: Global,
-    sample: &Volume,
-    rect: &Box3,
-    side: u32,
-    cells: &[u16],
-) -> Result<Vec<u16>, AllocError>
-    requires inside { Holds sample.now rect.now.corner rect.now.size }
-    requires some { 1 ≤ side }
-    requires few { 255 * block_bytes side sample.now.k < 2 ^ 16 }
-    requires cells { HasCells rect.now.size → AreCellSums sample.now rect.now cells.now }
-    ensures { IfOk result (λ sums. AreBlockEntries sample.now rect.now side sums.items) }
-{
-    if !has_cells(rect.size) {
-        return vec![in alloc; 0u16; LANES];
-    }
-    // Called for its contract only: it shows the prover that the sample is a volume.
-    let _sample = sample.samples();
-    let mut sums = Vec::from_slice(alloc, cells)?;
-    add_up(&mut sums, 1, side);
-    add_up(&mut sums, rect.size.w as usize, side);
-    Ok(sums)
-}
-
 impl BlockSums {
     /// The sums of the cells of a box with cells inside the sample, each a block by itself, in raster order,
     /// and LANES entries of 0 after them. They take 2 bytes a cell, and no more while they are made. The one
@@ -150,8 +124,8 @@ impl BlockSums {
     }
 
     /// The sums of the blocks of a box inside the sample, of so many cells on each side: made of those
-    /// of its cells, if it has any. They take 2 bytes a cell, and no more while they are made. The one
-    /// error is out of memory.
+    /// of its cells, if it has any, in the place of a copy of those. They take 2 bytes a cell, and no more
+    /// while they are made. The one error is out of memory.
     pub(crate) fn make(
         alloc: Global,
         sample: &Volume,
@@ -165,7 +139,21 @@ impl BlockSums {
         requires cells { HasCells rect.now.size → AreCellSums sample.now rect.now cells.now }
         ensures { IfOk result (AreBlockSums sample.now) }
     {
-        let sums = block_sums(alloc, sample, rect, side, cells)?;
+        if !has_cells(rect.size) {
+            let none = vec![in alloc; 0u16; LANES]?;
+            return Ok(BlockSums {
+                rect: *rect,
+                side,
+                sums: none,
+            });
+        }
+        // Called for its contract only: it shows the prover that the sample is a volume.
+        let _sample = sample.samples();
+        // First along the rows, then down the columns. A sum that runs past the end of a row or of a frame is
+        // no block's.
+        let mut sums = Vec::from_slice(alloc, cells)?;
+        add_up(&mut sums, 1, side);
+        add_up(&mut sums, rect.size.w as usize, side);
         Ok(BlockSums {
             rect: *rect,
             side,

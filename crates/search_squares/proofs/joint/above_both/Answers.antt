@@ -1,16 +1,17 @@
 use Rattle.std.proofs.lemmas.Grind.{common_steps}
-use Rattle.std.proofs.Common.{◌<◌, ◌≤◌, ◌+◌, ◌*◌, ◌^◌, subst, sym, arith}
+use Rattle.std.proofs.Common.{◌<◌, ◌≤◌, ◌+◌, ◌*◌, ◌/◌, ◌^◌, ◌∙◌, ap, refl, subst, sym, arith}
+use Rattle.std.specs.Prelude.{min}
 use Rattle.match_error.specs.Errors.{error_sum}
 use Rattle.map_canvas.specs.Choices.{laid_from}
 use Rattle.search_squares.specs.Blocks.{block_bytes, blocks_difference}
 use Rattle.search_squares.specs.Bounds.{place_along}
 use Rattle.search_squares.proofs.PlaceRuns.{none_marked}
-use Rattle.search_squares.proofs.RunEntries.{joint_above}
+use Rattle.search_squares.proofs.RunEntries.{joint_above, scale_holds}
 use Rattle.search_squares.proofs.joint.above_both.Goals as goal
 
-pub joint_scale-requires-clause-few : goal.joint_scale-requires-clause-few
-joint_scale-requires-clause-few c =
-    subst (λ k. 255 * block_bytes c.args.sums.now.side k < 2 ^ 16) (sym c.samples.ensures.samples) c.requires.sums.few
+pub scale_of-requires-clause-few : goal.scale_of-requires-clause-few
+scale_of-requires-clause-few c =
+    subst (λ k. 255 * block_bytes c.args.sums.now.side k < 2 ^ 16) (sym c.samples-k.ensures.samples) c.requires.sums.few
 
 pub returns-in_default : goal.returns-in_default
 returns-in_default c = λ j _ marked. absurd (none_marked j marked)
@@ -23,7 +24,10 @@ returns c = λ j lj marked.
     let side = c.args.sums.now.side in
     let scale = c.in-Some.scale in
     let from = place_along c.args.at j in
-    let most = subst (λ k. scale.factor * scale.factor * (block_bytes side k * c.args.limit) < 65536 * (scale.most + 1)) c.samples.ensures.samples c.in-Some.ensures in
+    let bound = c.saturating_mul-bound.ensures ∙ ap (λ bytes. min (bytes * c.args.limit) 18446744073709551615) c.from-2.ensures in
+    let scaled = c.saturating_mul-most.ensures ∙ (λ t. min (c.saturating_mul-bound.result * (c.from-3.ensures t * c.from-4.ensures t)) 18446744073709551615) in
+    let most_of = scale_holds (block_bytes side c.samples-k.result) c.args.limit _ c.saturating_mul-bound.result _ c.saturating_mul-most.result _ bound refl scaled refl (omega (arith, c.if-most-from.false, c.from-5.ensures)) in
+    let most = subst (λ k. scale.factor * scale.factor * (block_bytes side k * c.args.limit) < 65536 * (c.saturating_mul-most.result / 65536 + 1)) c.samples-k.ensures.samples most_of in
     let first : blocks_difference c.args.blocks.now one.sample.now from ≤ block_bytes side one.sample.now.k * error_sum one.canvas.now.map one.sample.now (laid_from one.rect from) =
     subst (λ s. blocks_difference c.args.blocks.now one.sample.now from ≤ block_bytes s one.sample.now.k * error_sum one.canvas.now.map one.sample.now (laid_from one.rect from)) c.requires.side
     (c.requires.blocks.bound one.sample.now from (c.requires.laid j lj)) in
@@ -31,7 +35,7 @@ returns c = λ j lj marked.
     subst (λ k. blocks_difference c.args.others.now other.sample.now from ≤ block_bytes side k * error_sum other.canvas.now.map other.sample.now (laid_from other.rect from)) (sym c.requires.samples)
     (subst (λ s. blocks_difference c.args.others.now other.sample.now from ≤ block_bytes s other.sample.now.k * error_sum other.canvas.now.map other.sample.now (laid_from other.rect from)) c.requires.other_side
     (c.requires.others.bound other.sample.now from (c.requires.other_laid j lj))) in
-    joint_above scale.factor (block_bytes side one.sample.now.k) c.args.limit scale.most _ one.times _ _ _ other.times _ _ _ most (c.marks_of_terms.ensures j in_lanes marked) (omega arith)
+    joint_above scale.factor (block_bytes side one.sample.now.k) c.args.limit _ _ one.times _ _ _ other.times _ _ _ most (c.marks_of_terms.ensures j in_lanes marked) (omega arith)
     (c.totals-totals.ensures j lj) first (c.totals-more.ensures j lj) second
 
 pub totals-more-requires-clause-blocks : goal.totals-more-requires-clause-blocks
@@ -79,8 +83,17 @@ totals-totals-requires-clause-side c = c.requires.side
 pub returns-then-n-eq0 : goal.returns-then-n-eq0
 returns-then-n-eq0 c = grind (arith, common_steps)
 
-pub nonzero_div-scale : goal.nonzero_div-scale
-nonzero_div-scale c = grind (arith, common_steps)
+pub nonzero_div-most : goal.nonzero_div-most
+nonzero_div-most c = grind (arith, common_steps)
 
 pub overflow_cast-alone : goal.overflow_cast-alone
 overflow_cast-alone c = grind (arith, common_steps)
+
+pub overflow_mul-cells : goal.overflow_mul-cells
+overflow_mul-cells c = grind (arith, common_steps)
+
+pub overflow_mul-square : goal.overflow_mul-square
+overflow_mul-square c = grind (arith, common_steps)
+
+pub overflow_cast-most : goal.overflow_cast-most
+overflow_cast-most c = omega arith

@@ -3,7 +3,7 @@ use Rattle.std.proofs.lemmas.Grind.{common_steps}
 use Rattle.search_squares.proofs.levels.BoxLevels.gather.Goals as goal
 
 pub add_all-requires-clause-cells : goal.add_all-requires-clause-cells
-add_all-requires-clause-cells c = c.has_cells.ensures.0 c.if-not-has_cells.false
+add_all-requires-clause-cells c = grind (arith, common_steps)
 
 pub add_all-requires-clause-long : goal.add_all-requires-clause-long
 add_all-requires-clause-long c = grind (arith, common_steps)
@@ -21,4 +21,4 @@ pub add_all-requires-clause-levels : goal.add_all-requires-clause-levels
 add_all-requires-clause-levels c = grind (arith, common_steps)
 
 pub filled_cells-requires-clause-some : goal.filled_cells-requires-clause-some
-filled_cells-requires-clause-some c = c.has_cells.ensures.0 c.if-not-has_cells.false
+filled_cells-requires-clause-some c = grind (arith, common_steps)

@@ -18,26 +18,6 @@ use cells::{Box3, Volume};
 use lane_kernels::ssd_masked;
 use map_canvas::{Canvas, Placement};
 
-// The sum over a row of the box, of all its cells by their marks.
-fn marked_row_sum(canvas: &Canvas, sample: &Volume, placement: &Placement, y: u32, f: u32) -> u64
-    requires over { StandsOver canvas.now sample.now }
-    requires fits { Fits canvas.now.map.size sample.now placement.now }
-    requires counts { (y < placement.now.rect.size.h) × (f < placement.now.rect.size.f) }
-    ensures sum { result ≡ row_error canvas.now.map sample.now placement.now y f }
-    ensures small { result ≤ most_row_error }
-{
-    // Called for its contract only: it shows the prover that the sample is a volume.
-    let _sample = sample.samples();
-    let picture = canvas.picture();
-    let at = row_start(placement.rect.corner, y, f);
-    let from = row_start(placement.from, y, f);
-    let w = placement.rect.size.w;
-    let old = picture.row(at, w);
-    let new = sample.row(from, w);
-    let marks = canvas.filled_row(at, w);
-    ssd_masked(old, new, marks)
-}
-
 // Where a column comes to in a part of w columns of its row that begins at column x: one before it comes
 // to its front, and one after it to its end.
 fn column_in(x: u32, w: u32, column: u32) -> u32
@@ -112,7 +92,8 @@ fn runs_sum(
     sum
 }
 
-// The sum over a row of the box, which may lie in the box of rows of runs.
+// The sum over a row of the box, which may lie in the box of rows of runs; else that of all its cells by their
+// marks.
 fn row_sum(
     rows: Option<&FilledRows>,
     inset: Inset,
@@ -139,7 +120,16 @@ fn row_sum(
         let new = box_row(sample, fronts.new, placement.from, size, y, f);
         return runs_sum(runs, inset.x, canvas, sample, placement, y, f, old, new);
     }
-    marked_row_sum(canvas, sample, placement, y, f)
+    // Called for its contract only: it shows the prover that the sample is a volume.
+    let _sample = sample.samples();
+    let picture = canvas.picture();
+    let at = row_start(placement.rect.corner, y, f);
+    let from = row_start(placement.from, y, f);
+    let w = placement.rect.size.w;
+    let old = picture.row(at, w);
+    let new = sample.row(from, w);
+    let marks = canvas.filled_row(at, w);
+    ssd_masked(old, new, marks)
 }
 
 // The sum over a frame of the box on top of that over the frames before it, where both are at most a

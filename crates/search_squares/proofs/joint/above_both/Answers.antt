@@ -1,5 +1,6 @@
 use Rattle.std.proofs.lemmas.Grind.{common_steps}
 use Rattle.std.proofs.Common.{◌<◌, ◌≤◌, ◌+◌, ◌*◌, ◌/◌, ◌^◌, ◌∙◌, ap, refl, subst, sym, arith}
+use Rattle.std.proofs.Math.Nat.{mul-le-mul}
 use Rattle.std.specs.Prelude.{min}
 use Rattle.match_error.specs.Errors.{error_sum}
 use Rattle.map_canvas.specs.Choices.{laid_from}
@@ -93,7 +94,12 @@ pub overflow_mul-cells : goal.overflow_mul-cells
 overflow_mul-cells c = grind (arith, common_steps)
 
 pub overflow_mul-square : goal.overflow_mul-square
-overflow_mul-square c = grind (arith, common_steps)
+overflow_mul-square c = omega (arith, mul-le-mul {n₁ = c.from-3.result} {m₁ = c.from-4.result} {n₂ = 65535} {m₂ = 65535} (omega (arith, c.from-3.ensures)) (omega (arith, c.from-4.ensures)))
 
 pub overflow_cast-most : goal.overflow_cast-most
 overflow_cast-most c = omega arith
+
+pub overflow_mul-bytes : goal.overflow_mul-bytes
+overflow_mul-bytes c =
+    let few : 255 * block_bytes c.args.sums.now.side c.samples-k.result < 2 ^ 16 = subst (λ k. 255 * block_bytes c.args.sums.now.side k < 2 ^ 16) (sym c.samples-k.ensures.samples) c.requires.sums.few in
+    omega (arith, few)

@@ -1,5 +1,6 @@
 use Rattle.std.proofs.lemmas.Grind.{common_steps}
-use Rattle.std.proofs.Common.{◌≡◌, ◌≤◌, ◌<◌, ◌+◌, ◌++◌, map, take, ap, rules, sym, subst, ◌∙◌, arith}
+use Rattle.std.proofs.Common.{◌≡◌, ◌≤◌, ◌<◌, ◌+◌, ◌++◌, map, take, ap, refl, rules, sym, subst, ◌∙◌, arith}
+use Rattle.std.proofs.lemmas.List.{append-nil}
 use Rattle.std.specs.Prelude.{Some, slice_get}
 use Rattle.search_squares.specs.Eliminations.{AreEliminatedBy}
 use Rattle.cells.specs.Places.{cell_count}
@@ -19,13 +20,13 @@ use Rattle.patch_place.proofs.shortlist.Shortlist.add_part.Goals as goal
 
 pub entries-init : goal.entries-init
 entries-init g c = record {
-  short = search rules;
-  sound = search rules;
-  limited = search rules;
-  seen = search rules;
-  within = search rules;
-  tol = search rules;
-  known = search rules;
+  short = subst (IsShortlist c.args.self.now) (sym (append-nil (map (g.E.BoxErrors.error c.args.errors.now) (entries_before (fit_list c.args.rect.now) c.args.sizes.now c.args.n)))) c.requires.so_far;
+  sound = c.requires.sound;
+  limited = c.limit_for-limit.ensures;
+  seen = omega arith;
+  within = omega arith;
+  tol = refl;
+  known = refl;
   run = c.none-skips.ensures (sum_from (g.E.BoxErrors.error c.args.errors.now) c.args.rect.now);
   spot = search rules;
 }

@@ -6,7 +6,7 @@ use Rattle.std.proofs.lemmas.List.{length-append, length-drop, nil_from_length}
 use Rattle.std.proofs.Math.Nat.{mul-suc, add-div_left}
 use Rattle.std.proofs.lemmas.Bool.{eqb-true, eqb-false}
 use Rattle.limits.specs.declared.bounds.TheConstants.{GREATEST_AXIS, MOST_LINE_BYTES}
-use Rattle.shelf_traits.specs.Files.{Changes, ShelfState, OnlyReads, Reads, ReadsRose, content_of}
+use Rattle.shelf_traits.specs.Files.{Changes, ShelfState, OnlyReads, Reads, content_of}
 use Rattle.shelf_traits.specs.declared.fault.ReadError.{ReadError}
 use Rattle.shelf_traits.specs.declared.fault.ReadError.TheVariants.{ReadFault, Bad, Limit, NoMemory}
 use Rattle.shelf_traits.specs.declared.fault.FormFault.TheVariants.{Form, Depth, Space, Cell, NoFrames, Sample, Trailing}
@@ -142,7 +142,3 @@ filled_end front most count bytes r is few whole = subst (λ t. IfOk t (IsFilled
     tested : (t : Bool) → (count == 0) ≡ t → IfOk (cond t (Err (Bad NoFrames)) (Ok (record { bytes = bytes; count = count }))) (IsFilledSoFar front most)
     tested true e = tt
     tested false e = record { some = omega (arith, eqb-false count 0 e); few = few; whole = whole }
-
--- the byte after the frames can't be looked at
-pub end_unread : {names : List (List ℕ)} (kind : SpaceKind) (w h start most : ℕ) (name : List ℕ) (e : ReadError) (a b c : ShelfState) → OnlyReads names a b → e ≡ ReadFault → ReadsRose name b c → FramesAs kind w h start most name a c (Err e)
-end_unread kind w h start most name e a b c first is rose = subst (λ error. FramesAs kind w h start most name a c (Err error)) (sym is) (fault_later name a b c first rose)

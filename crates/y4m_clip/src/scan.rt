@@ -1,6 +1,6 @@
 // The scanner of a stream line after its magic: a machine of small steps, one for each byte.
 ghost use Rattle.std.specs.Prelude.{◌≡◌, length};
-ghost use Rattle.y4m_clip.specs.Scanning.{line_kind, no_letters, with_letter, may_follow, line_ended, tag_entered, after_number_digit, in_gap, in_value, in_number, line_step, IsLineScanned, IsSoundLine};
+ghost use Rattle.y4m_clip.specs.Scanning.{line_kind, with_letter, may_follow, line_ended, tag_entered, in_number, line_step, IsLineScanned, IsSoundLine};
 
 /// What a byte is in a stream line.
 #[derive(Clone, Copy)]
@@ -58,20 +58,17 @@ pub fn classify(byte: u8) -> LineKind
     }
 }
 
-impl Letters {
-    const fn none() -> Letters
-        ensures { result ≡ no_letters }
-    {
-        Letters {
-            w: false,
-            h: false,
-            f: false,
-            i: false,
-            a: false,
-            c: false,
-        }
-    }
+// No letter.
+const NO_LETTERS: Letters = Letters {
+    w: false,
+    h: false,
+    f: false,
+    i: false,
+    a: false,
+    c: false,
+};
 
+impl Letters {
     // One more tag has come.
     fn with(self, letter: u8) -> Letters
         ensures { result ≡ with_letter self letter }
@@ -125,39 +122,6 @@ fn enter(letters: Letters, letter: u8) -> Option<LineScan>
     }
 }
 
-// A byte after a blank.
-fn gap(letters: Letters, byte: u8, kind: LineKind) -> Option<LineScan>
-    ensures { result ≡ in_gap letters byte kind }
-{
-    match kind {
-        LineKind::Blank => Some(LineScan::Gap(letters)),
-        LineKind::LineEnd => end(letters),
-        LineKind::Ink => enter(letters, byte),
-    }
-}
-
-// A byte of a tag.
-fn value(letters: Letters, kind: LineKind) -> Option<LineScan>
-    ensures { result ≡ in_value letters kind }
-{
-    match kind {
-        LineKind::Blank => Some(LineScan::Gap(letters)),
-        LineKind::LineEnd => end(letters),
-        LineKind::Ink => Some(LineScan::Value(letters)),
-    }
-}
-
-// A digit of a number.
-fn digit(letters: Letters, positive: bool, byte: u8) -> Option<LineScan>
-    ensures { result ≡ after_number_digit letters positive byte }
-{
-    if byte >= b'0' && byte <= b'9' {
-        Some(LineScan::Number(letters, positive || byte > b'0'))
-    } else {
-        None
-    }
-}
-
 // A byte of a number.
 fn number(letters: Letters, positive: bool, byte: u8, kind: LineKind) -> Option<LineScan>
     ensures { result ≡ in_number letters positive byte kind }
@@ -169,7 +133,11 @@ fn number(letters: Letters, positive: bool, byte: u8, kind: LineKind) -> Option<
             None
         },
         LineKind::LineEnd => if positive { end(letters) } else { None },
-        LineKind::Ink => digit(letters, positive, byte),
+        LineKind::Ink => if byte >= b'0' && byte <= b'9' {
+            Some(LineScan::Number(letters, positive || byte > b'0'))
+        } else {
+            None
+        },
     }
 }
 
@@ -179,12 +147,20 @@ fn step(scan: LineScan, byte: u8) -> Option<LineScan>
 {
     match scan {
         LineScan::Magic => if byte == b' ' {
-            Some(LineScan::Gap(Letters::none()))
+            Some(LineScan::Gap(NO_LETTERS))
         } else {
             None
         },
-        LineScan::Gap(letters) => gap(letters, byte, classify(byte)),
-        LineScan::Value(letters) => value(letters, classify(byte)),
+        LineScan::Gap(letters) => match classify(byte) {
+            LineKind::Blank => Some(scan),
+            LineKind::LineEnd => end(letters),
+            LineKind::Ink => enter(letters, byte),
+        },
+        LineScan::Value(letters) => match classify(byte) {
+            LineKind::Blank => Some(LineScan::Gap(letters)),
+            LineKind::LineEnd => end(letters),
+            LineKind::Ink => Some(scan),
+        },
         LineScan::Number(letters, positive) => number(letters, positive, byte, classify(byte)),
         LineScan::Whole => None,
     }

@@ -30,7 +30,7 @@ returns-in_err-fill_planes-clause-frame g c =
 pub returns-clause-frame : goal.returns-clause-frame
 returns-clause-frame g c =
     let found = rw c.in-Some.is at c.in_ok-length.ensures.found in
-    let whole : length c.fill_planes.new.planes ≡ samples_of c.args.front.now.form.space * (c.args.front.now.w * c.args.front.now.h) = omega (arith, c.requires.planes) in
+    let whole : length c.fill_planes.new.planes ≡ samples_of c.args.front.now.form.space * (c.args.front.now.w * c.args.front.now.h) = c.fill_planes.auto.planes ∙ c.deref_mut.ensures.len ∙ c.args.planes.now.ok.0 ∙ c.requires.planes in
     let items = with_items_is c.args.planes.now c.fill_planes.new.planes (c.fill_planes.auto.planes ∙ c.deref_mut.ensures.len) in
     subst (λ planes. ReadsFrameAs c.args.front.now.form.space c.args.front.now.w c.args.front.now.h c.args.name.now c.args.at planes (g.S.Shelf.state c.args.shelf.now) (g.S.Shelf.state c.fill_planes.new.shelf) (Ok (Some (c.args.at + c.in-Some.length + c.len-2.result)))) (sym items)
     (frame_read c.args.front.now.form.space c.args.front.now.w c.args.front.now.h c.args.name.now c.args.at c.in-Some.length (c.args.at + c.in-Some.length + c.len-2.result) c.fill_planes.new.planes
@@ -52,8 +52,8 @@ fill_planes-requires g c =
 
 pub add_frame-requires-clause-planes : goal.add_frame-requires-clause-planes
 add_frame-requires-clause-planes g c =
-    let items = with_items_is c.args.planes.now c.fill_planes.new.planes (c.fill_planes.auto.planes ∙ c.deref_mut.ensures.len) in
-    omega (arith, c.requires.planes, ap length items)
+    let long = c.fill_planes.auto.planes ∙ c.deref_mut.ensures.len in
+    ap length c.deref.ensures.value ∙ ap length (with_items_is c.args.planes.now c.fill_planes.new.planes long) ∙ long ∙ c.args.planes.now.ok.0 ∙ c.requires.planes
 
 pub add_frame-requires-clause-few : goal.add_frame-requires-clause-few
 add_frame-requires-clause-few g c = c.requires.few
@@ -95,20 +95,20 @@ returns-in_default-clause-frame g c = grind (arith, common_steps)
 
 pub returns-in_err-make_room-clause-planes : goal.returns-in_err-make_room-clause-planes
 returns-in_err-make_room-clause-planes g c =
-    let items = with_items_is c.args.planes.now c.fill_planes.new.planes (c.fill_planes.auto.planes ∙ c.deref_mut.ensures.len) in
-    omega (arith, c.requires.planes, ap length items)
+    let long = c.fill_planes.auto.planes ∙ c.deref_mut.ensures.len in
+    ap length (with_items_is c.args.planes.now c.fill_planes.new.planes long) ∙ long ∙ c.args.planes.now.ok.0 ∙ c.requires.planes
 
 pub returns-in_err-fill_planes-clause-planes : goal.returns-in_err-fill_planes-clause-planes
 returns-in_err-fill_planes-clause-planes g c =
-    let items = with_items_is c.args.planes.now c.fill_planes.new.planes (c.fill_planes.auto.planes ∙ c.deref_mut.ensures.len) in
-    omega (arith, c.requires.planes, ap length items)
+    let long = c.fill_planes.auto.planes ∙ c.deref_mut.ensures.len in
+    ap length (with_items_is c.args.planes.now c.fill_planes.new.planes long) ∙ long ∙ c.args.planes.now.ok.0 ∙ c.requires.planes
 
 pub returns-clause-planes : goal.returns-clause-planes
 returns-clause-planes g c =
-    let items = with_items_is c.args.planes.now c.fill_planes.new.planes (c.fill_planes.auto.planes ∙ c.deref_mut.ensures.len) in
-    omega (arith, c.requires.planes, ap length items)
+    let long = c.fill_planes.auto.planes ∙ c.deref_mut.ensures.len in
+    ap length (with_items_is c.args.planes.now c.fill_planes.new.planes long) ∙ long ∙ c.args.planes.now.ok.0 ∙ c.requires.planes
 
 pub returns-in_err-add_frame-clause-planes : goal.returns-in_err-add_frame-clause-planes
 returns-in_err-add_frame-clause-planes g c =
-    let items = with_items_is c.args.planes.now c.fill_planes.new.planes (c.fill_planes.auto.planes ∙ c.deref_mut.ensures.len) in
-    omega (arith, c.requires.planes, ap length items)
+    let long = c.fill_planes.auto.planes ∙ c.deref_mut.ensures.len in
+    ap length (with_items_is c.args.planes.now c.fill_planes.new.planes long) ∙ long ∙ c.args.planes.now.ok.0 ∙ c.requires.planes

@@ -1,13 +1,13 @@
 -- A first word that names a command, and one that names none.
-use Rattle.std.proofs.Common.{◌≡◌, ◌≢◌, ℕ, ◌≤◌, List, [], ◌∷◌, length, get_or, take, drop, ◌-◌, refl, ap, subst, ◌∙◌, false, arith}
-use Rattle.std.specs.Prelude.{Result, Err, codes}
+use Rattle.std.proofs.Common.{◌≡◌, ◌≢◌, ℕ, ◌≤◌, List, [], ◌∷◌, length, get_or, take, drop, ◌-◌, refl, ap, subst, ◌∙◌, false, arith, inl, inr}
+use Rattle.std.specs.Prelude.{Result, Ok, Err, codes}
 use Rattle.std.proofs.lemmas.List.{take_all}
 use Rattle.job_words.specs.declared.job.Job.{Job}
 use Rattle.job_words.specs.declared.job.WordFault.{WordFault}
-use Rattle.job_words.specs.declared.job.WordFault.TheVariants.{UnknownCommand}
+use Rattle.job_words.specs.declared.job.WordFault.TheVariants.{NoMemory, UnknownCommand}
 use Rattle.job_words.specs.Texts.{same_text}
 use Rattle.job_words.specs.Jobs.{job_of}
-use Rattle.job_words.specs.Words.{AnswersAs}
+use Rattle.job_words.specs.Words.{AnswersAs, and_then}
 use Rattle.job_words.proofs.Texting.{same_not}
 
 pub record IsUnknown (command : List ℕ) : Type 0 where
@@ -53,3 +53,12 @@ pub answered : (text : List ℕ) (ask : List (List ℕ) → Result Job WordFault
     → 1 ≤ length words → text ≡ get_or words 0 d → words ≡ all → AnswersAs (ask (after words)) result → AnswersAs (job_of all) result
 answered text ask is words all d result le first same =
     subst (λ asked. AnswersAs asked result) (after_first text ask is words d le first ∙ ap job_of same)
+
+-- a job of one command is the job of all words, and so is its refusal
+pub wrapped : {T : Type 0} (make : T → Job) (asked : Result T WordFault) (job : T) → AnswersAs asked (Ok job) → AnswersAs (and_then (λ it. Ok (make it)) asked) (Ok (make job))
+wrapped make asked job (inl is) = inl (ap (and_then (λ it. Ok (make it))) is)
+wrapped make asked job (inr none) = absurd (cc)
+
+pub passed_on : {T : Type 0} (make : T → Job) (asked : Result T WordFault) (fault : WordFault) → AnswersAs asked (Err fault) → AnswersAs (and_then (λ it. Ok (make it)) asked) (Err fault)
+passed_on make asked fault (inl is) = inl (ap (and_then (λ it. Ok (make it))) is)
+passed_on make asked fault (inr none) = let same : fault ≡ NoMemory = cc in rw same (inr refl)

@@ -1,7 +1,7 @@
 // All words of a run, in the order in which their refusals are tried.
 ghost use Rattle.std.specs.Prelude.{◌≡◌, ◌⊎◌, ◌<◌, ◌++◌, ◌∷◌, [], Ok, Err, IfOk, IfErr, OnOk, length, option_copied};
 ghost use Rattle.job_words.specs.Words as by;
-ghost use Rattle.job_words.specs.Jobs.{IsJob, job_of, merge_asked, tile_asked, transfer_asked};
+ghost use Rattle.job_words.specs.Jobs.{IsJob, job_of};
 
 use crate::check::read_check;
 use crate::grow::read_grow;
@@ -122,30 +122,6 @@ pub fn all_settings(alloc: Global, rows: &[Row], words: &[Name]) -> Result<Vec<S
     }
 }
 
-// The job of the words after `tile`.
-fn tile_asked(alloc: Global, words: &[Name]) -> Result<Job, WordFault>
-    ensures exact { by.AnswersAs (tile_asked words.now) result }
-    ensures lawful { IfOk result IsJob }
-{
-    Ok(Job::Tile(read_tile(alloc, words)?))
-}
-
-// The job of the words after `merge`.
-fn merge_asked(alloc: Global, words: &[Name]) -> Result<Job, WordFault>
-    ensures exact { by.AnswersAs (merge_asked words.now) result }
-    ensures lawful { IfOk result IsJob }
-{
-    Ok(Job::Merge(read_merge(alloc, words)?))
-}
-
-// The job of the words after `transfer`.
-fn transfer_asked(alloc: Global, words: &[Name]) -> Result<Job, WordFault>
-    ensures exact { by.AnswersAs (transfer_asked words.now) result }
-    ensures lawful { IfOk result IsJob }
-{
-    Ok(Job::Transfer(read_transfer(alloc, words)?))
-}
-
 /// The job that words ask for, or the first of their refusals: the command is tried first, then word
 /// by word, with all refusals of a word before the next word, and last the keys that no word sets.
 /// Only `NoMemory` may come at any place.
@@ -163,9 +139,9 @@ pub fn read_job(alloc: Global, words: &Words) -> Result<Job, WordFault>
         "check" => read_check(alloc, words),
         "trial" => read_trial(alloc, words),
         "upgrade" => read_upgrade(alloc, words),
-        "tile" => tile_asked(alloc, words),
-        "merge" => merge_asked(alloc, words),
-        "transfer" => transfer_asked(alloc, words),
+        "tile" => Ok(Job::Tile(read_tile(alloc, words)?)),
+        "merge" => Ok(Job::Merge(read_merge(alloc, words)?)),
+        "transfer" => Ok(Job::Transfer(read_transfer(alloc, words)?)),
         _ => Err(WordFault::UnknownCommand),
     }
 }

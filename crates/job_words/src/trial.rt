@@ -1,8 +1,7 @@
 // The words of `trial`.
-ghost use Rattle.std.specs.Prelude.{◌≡◌, IfOk};
+ghost use Rattle.std.specs.Prelude.{IfOk};
 ghost use Rattle.job_words.specs.Words as by;
 ghost use Rattle.job_words.specs.Jobs.{IsJob, trial_asked};
-ghost use Rattle.job_words.specs.TrialWords.{HasTrialValues, trial_size};
 
 use crate::fields::{nth_at, number_at};
 use crate::grow::{Place, place_nth};
@@ -46,18 +45,6 @@ const ROWS: [Row; 9] = [
     seed_row!(),
 ];
 
-// The output's size.
-fn size_at(settings: &[Setting]) -> Size
-    requires { HasTrialValues settings.now }
-    ensures { result ≡ trial_size settings.now }
-{
-    Size {
-        w: number_at(settings, Key::Width) as u32,
-        h: number_at(settings, Key::Height) as u32,
-        f: 1,
-    }
-}
-
 /// The job of the words after the command, or their first refusal.
 pub fn read_trial(alloc: Global, words: &[Name]) -> Result<Job, WordFault>
     ensures exact { by.AnswersAs (trial_asked words.now) result }
@@ -67,7 +54,11 @@ pub fn read_trial(alloc: Global, words: &[Name]) -> Result<Job, WordFault>
     let values: &[Setting] = &settings;
     Ok(Job::Trial(TrialJob {
         n: number_at(values, Key::N) as u32,
-        size: size_at(values),
+        size: Size {
+            w: number_at(values, Key::Width) as u32,
+            h: number_at(values, Key::Height) as u32,
+            f: 1,
+        },
         place: place_nth(nth_at(values, Key::Place)),
         side: number_at(values, Key::Side) as u32,
         overlap: number_at(values, Key::Overlap) as u32,

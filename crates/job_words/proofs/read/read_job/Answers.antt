@@ -1,9 +1,11 @@
 use Rattle.std.proofs.Common.{arith}
 use Rattle.std.proofs.lemmas.Grind.{common_steps}
 use Rattle.std.proofs.Common.{inl, refl, subst, sym, ◌∙◌, ap}
-use Rattle.std.specs.Prelude.{codes}
+use Rattle.std.specs.Prelude.{Ok, Err, codes}
+use Rattle.std.proofs.lemmas.Result.{err_from_is_err_and}
+use Rattle.job_words.specs.declared.job.Job.TheVariants.{Merge, Tile, Transfer}
 use Rattle.job_words.specs.Jobs.{check_asked, grow_asked, job_of, loop_asked, merge_asked, quilt_asked, tile_asked, transfer_asked, trial_asked, upgrade_asked}
-use Rattle.job_words.proofs.Commands.{IsUnknown, answered, unknown}
+use Rattle.job_words.proofs.Commands.{IsUnknown, answered, passed_on, unknown, wrapped}
 use Rattle.job_words.proofs.read.read_job.Goals as goal
 
 pub returns-in_default-as_text-clause-exact : goal.returns-in_default-as_text-clause-exact
@@ -42,20 +44,41 @@ returns-in-upgrade-clause-exact c =
     answered (codes "upgrade") upgrade_asked (λ rest. refl) c.as_slice.result.now c.args.words.now _ c.read_upgrade.result c.in-len1-up.len_at_least
     (sym c.in-upgrade.is ∙ c.as_text.ensures ∙ c.command-item.is) c.as_slice.ensures c.read_upgrade.ensures.exact
 
-pub returns-in-tile-clause-exact : goal.returns-in-tile-clause-exact
-returns-in-tile-clause-exact c =
-    answered (codes "tile") tile_asked (λ rest. refl) c.as_slice.result.now c.args.words.now _ c.tile_asked.result c.in-len1-up.len_at_least
-    (sym c.in-tile.is ∙ c.as_text.ensures ∙ c.command-item.is) c.as_slice.ensures c.tile_asked.ensures.exact
-
-pub returns-in-merge-clause-exact : goal.returns-in-merge-clause-exact
-returns-in-merge-clause-exact c =
-    answered (codes "merge") merge_asked (λ rest. refl) c.as_slice.result.now c.args.words.now _ c.merge_asked.result c.in-len1-up.len_at_least
-    (sym c.in-merge.is ∙ c.as_text.ensures ∙ c.command-item.is) c.as_slice.ensures c.merge_asked.ensures.exact
-
-pub returns-in-transfer-clause-exact : goal.returns-in-transfer-clause-exact
-returns-in-transfer-clause-exact c =
-    answered (codes "transfer") transfer_asked (λ rest. refl) c.as_slice.result.now c.args.words.now _ c.transfer_asked.result c.in-len1-up.len_at_least
-    (sym c.in-transfer.is ∙ c.as_text.ensures ∙ c.command-item.is) c.as_slice.ensures c.transfer_asked.ensures.exact
-
 pub returns-in_default-clause-exact : goal.returns-in_default-clause-exact
 returns-in_default-clause-exact c = grind (arith, common_steps)
+
+pub returns-in_ok-read_tile-in-tile-clause-exact : goal.returns-in_ok-read_tile-in-tile-clause-exact
+returns-in_ok-read_tile-in-tile-clause-exact c =
+    answered (codes "tile") tile_asked (λ rest. refl) c.as_slice.result.now c.args.words.now _ (Ok (Tile c.in_ok-read_tile-in-tile.field-0)) c.in-len1-up.len_at_least
+    (sym c.in-tile.is ∙ c.as_text.ensures ∙ c.command-item.is) c.as_slice.ensures (wrapped Tile _ _ (c.in_ok-read_tile-in-tile.ensures {u = tt}).exact)
+
+pub returns-in_ok-read_merge-in-merge-clause-exact : goal.returns-in_ok-read_merge-in-merge-clause-exact
+returns-in_ok-read_merge-in-merge-clause-exact c =
+    answered (codes "merge") merge_asked (λ rest. refl) c.as_slice.result.now c.args.words.now _ (Ok (Merge c.in_ok-read_merge-in-merge.field-0)) c.in-len1-up.len_at_least
+    (sym c.in-merge.is ∙ c.as_text.ensures ∙ c.command-item.is) c.as_slice.ensures (wrapped Merge _ _ (c.in_ok-read_merge-in-merge.ensures {u = tt}).exact)
+
+pub returns-in_ok-read_transfer-in-transfer-clause-exact : goal.returns-in_ok-read_transfer-in-transfer-clause-exact
+returns-in_ok-read_transfer-in-transfer-clause-exact c =
+    answered (codes "transfer") transfer_asked (λ rest. refl) c.as_slice.result.now c.args.words.now _ (Ok (Transfer c.in_ok-read_transfer-in-transfer.field-0)) c.in-len1-up.len_at_least
+    (sym c.in-transfer.is ∙ c.as_text.ensures ∙ c.command-item.is) c.as_slice.ensures (wrapped Transfer _ _ (c.in_ok-read_transfer-in-transfer.ensures {u = tt}).exact)
+
+pub returns-in_err-read_tile-in-tile-clause-exact : goal.returns-in_err-read_tile-in-tile-clause-exact
+returns-in_err-read_tile-in-tile-clause-exact c =
+    let p = err_from_is_err_and c.from_residual.result c.from_residual.ensures.1 in
+    rw (p.1, p.2)
+    (answered (codes "tile") tile_asked (λ rest. refl) c.as_slice.result.now c.args.words.now _ (Err c.in_err-read_tile-in-tile.field-0.0) c.in-len1-up.len_at_least
+    (sym c.in-tile.is ∙ c.as_text.ensures ∙ c.command-item.is) c.as_slice.ensures (passed_on Tile _ _ (c.in_err-read_tile-in-tile.ensures {u = tt}).exact))
+
+pub returns-in_err-read_merge-in-merge-clause-exact : goal.returns-in_err-read_merge-in-merge-clause-exact
+returns-in_err-read_merge-in-merge-clause-exact c =
+    let p = err_from_is_err_and c.from_residual-in_err-read_merge-in-merge.result c.from_residual-in_err-read_merge-in-merge.ensures.1 in
+    rw (p.1, p.2)
+    (answered (codes "merge") merge_asked (λ rest. refl) c.as_slice.result.now c.args.words.now _ (Err c.in_err-read_merge-in-merge.field-0.0) c.in-len1-up.len_at_least
+    (sym c.in-merge.is ∙ c.as_text.ensures ∙ c.command-item.is) c.as_slice.ensures (passed_on Merge _ _ (c.in_err-read_merge-in-merge.ensures {u = tt}).exact))
+
+pub returns-in_err-read_transfer-in-transfer-clause-exact : goal.returns-in_err-read_transfer-in-transfer-clause-exact
+returns-in_err-read_transfer-in-transfer-clause-exact c =
+    let p = err_from_is_err_and c.from_residual-in_err-read_transfer-in-transfer.result c.from_residual-in_err-read_transfer-in-transfer.ensures.1 in
+    rw (p.1, p.2)
+    (answered (codes "transfer") transfer_asked (λ rest. refl) c.as_slice.result.now c.args.words.now _ (Err c.in_err-read_transfer-in-transfer.field-0.0) c.in-len1-up.len_at_least
+    (sym c.in-transfer.is ∙ c.as_text.ensures ∙ c.command-item.is) c.as_slice.ensures (passed_on Transfer _ _ (c.in_err-read_transfer-in-transfer.ensures {u = tt}).exact))

@@ -22,34 +22,43 @@ pub overflow_cast-result : goal.overflow_cast-result
 overflow_cast-result c = omega (arith, number_within 0 GREATEST_SAMPLE_NUMBER (value_at key.N c.deref-values.result.now) (trial_values trial_rows c.args.words.now _ c.deref-values.result.now refl (c.in_ok-settings.ensures {u = tt}).ok c.deref-values.ensures.value).n)
 
 pub number_at-requires-2 : goal.number_at-requires-2
-number_at-requires-2 c = numeric 1 GREATEST_AXIS (value_at key.Side c.deref-values.result.now) (trial_values trial_rows c.args.words.now _ c.deref-values.result.now refl (c.in_ok-settings.ensures {u = tt}).ok c.deref-values.ensures.value).side
+number_at-requires-2 c = numeric 1 GREATEST_AXIS (value_at key.Width c.deref-values.result.now) (trial_values trial_rows c.args.words.now _ c.deref-values.result.now refl (c.in_ok-settings.ensures {u = tt}).ok c.deref-values.ensures.value).width
 
 pub overflow_cast-result-2 : goal.overflow_cast-result-2
-overflow_cast-result-2 c = omega (arith, number_within 1 GREATEST_AXIS (value_at key.Side c.deref-values.result.now) (trial_values trial_rows c.args.words.now _ c.deref-values.result.now refl (c.in_ok-settings.ensures {u = tt}).ok c.deref-values.ensures.value).side)
+overflow_cast-result-2 c = omega (arith, number_within 1 GREATEST_AXIS (value_at key.Width c.deref-values.result.now) (trial_values trial_rows c.args.words.now _ c.deref-values.result.now refl (c.in_ok-settings.ensures {u = tt}).ok c.deref-values.ensures.value).width)
 
 pub number_at-requires-3 : goal.number_at-requires-3
-number_at-requires-3 c = numeric 0 GREATEST_OVERLAP (value_at key.Overlap c.deref-values.result.now) (trial_values trial_rows c.args.words.now _ c.deref-values.result.now refl (c.in_ok-settings.ensures {u = tt}).ok c.deref-values.ensures.value).overlap
+number_at-requires-3 c = numeric 1 GREATEST_AXIS (value_at key.Height c.deref-values.result.now) (trial_values trial_rows c.args.words.now _ c.deref-values.result.now refl (c.in_ok-settings.ensures {u = tt}).ok c.deref-values.ensures.value).height
 
 pub overflow_cast-result-3 : goal.overflow_cast-result-3
-overflow_cast-result-3 c = omega (arith, number_within 0 GREATEST_OVERLAP (value_at key.Overlap c.deref-values.result.now) (trial_values trial_rows c.args.words.now _ c.deref-values.result.now refl (c.in_ok-settings.ensures {u = tt}).ok c.deref-values.ensures.value).overlap)
+overflow_cast-result-3 c = omega (arith, number_within 1 GREATEST_AXIS (value_at key.Height c.deref-values.result.now) (trial_values trial_rows c.args.words.now _ c.deref-values.result.now refl (c.in_ok-settings.ensures {u = tt}).ok c.deref-values.ensures.value).height)
 
 pub number_at-requires-4 : goal.number_at-requires-4
-number_at-requires-4 c = numeric 0 GREATEST_TOLERANCE (value_at key.Tol c.deref-values.result.now) (trial_values trial_rows c.args.words.now _ c.deref-values.result.now refl (c.in_ok-settings.ensures {u = tt}).ok c.deref-values.ensures.value).tol
+number_at-requires-4 c = numeric 1 GREATEST_AXIS (value_at key.Side c.deref-values.result.now) (trial_values trial_rows c.args.words.now _ c.deref-values.result.now refl (c.in_ok-settings.ensures {u = tt}).ok c.deref-values.ensures.value).side
 
 pub overflow_cast-result-4 : goal.overflow_cast-result-4
-overflow_cast-result-4 c = omega (arith, number_within 0 GREATEST_TOLERANCE (value_at key.Tol c.deref-values.result.now) (trial_values trial_rows c.args.words.now _ c.deref-values.result.now refl (c.in_ok-settings.ensures {u = tt}).ok c.deref-values.ensures.value).tol)
+overflow_cast-result-4 c = omega (arith, number_within 1 GREATEST_AXIS (value_at key.Side c.deref-values.result.now) (trial_values trial_rows c.args.words.now _ c.deref-values.result.now refl (c.in_ok-settings.ensures {u = tt}).ok c.deref-values.ensures.value).side)
 
 pub number_at-requires-5 : goal.number_at-requires-5
-number_at-requires-5 c = numeric 0 MOST_ROUNDS (value_at key.Rounds c.deref-values.result.now) (trial_values trial_rows c.args.words.now _ c.deref-values.result.now refl (c.in_ok-settings.ensures {u = tt}).ok c.deref-values.ensures.value).rounds
+number_at-requires-5 c = numeric 0 GREATEST_OVERLAP (value_at key.Overlap c.deref-values.result.now) (trial_values trial_rows c.args.words.now _ c.deref-values.result.now refl (c.in_ok-settings.ensures {u = tt}).ok c.deref-values.ensures.value).overlap
 
 pub overflow_cast-result-5 : goal.overflow_cast-result-5
-overflow_cast-result-5 c = omega (arith, number_within 0 MOST_ROUNDS (value_at key.Rounds c.deref-values.result.now) (trial_values trial_rows c.args.words.now _ c.deref-values.result.now refl (c.in_ok-settings.ensures {u = tt}).ok c.deref-values.ensures.value).rounds)
+overflow_cast-result-5 c = omega (arith, number_within 0 GREATEST_OVERLAP (value_at key.Overlap c.deref-values.result.now) (trial_values trial_rows c.args.words.now _ c.deref-values.result.now refl (c.in_ok-settings.ensures {u = tt}).ok c.deref-values.ensures.value).overlap)
 
 pub number_at-requires-6 : goal.number_at-requires-6
-number_at-requires-6 c = numeric 0 GREATEST_SEED (value_at key.Seed c.deref-values.result.now) (trial_values trial_rows c.args.words.now _ c.deref-values.result.now refl (c.in_ok-settings.ensures {u = tt}).ok c.deref-values.ensures.value).seed
+number_at-requires-6 c = numeric 0 GREATEST_TOLERANCE (value_at key.Tol c.deref-values.result.now) (trial_values trial_rows c.args.words.now _ c.deref-values.result.now refl (c.in_ok-settings.ensures {u = tt}).ok c.deref-values.ensures.value).tol
 
-pub size_at-requires : goal.size_at-requires
-size_at-requires c = (trial_values trial_rows c.args.words.now _ c.deref-values.result.now refl (c.in_ok-settings.ensures {u = tt}).ok c.deref-values.ensures.value)
+pub overflow_cast-result-6 : goal.overflow_cast-result-6
+overflow_cast-result-6 c = omega (arith, number_within 0 GREATEST_TOLERANCE (value_at key.Tol c.deref-values.result.now) (trial_values trial_rows c.args.words.now _ c.deref-values.result.now refl (c.in_ok-settings.ensures {u = tt}).ok c.deref-values.ensures.value).tol)
+
+pub number_at-requires-7 : goal.number_at-requires-7
+number_at-requires-7 c = numeric 0 MOST_ROUNDS (value_at key.Rounds c.deref-values.result.now) (trial_values trial_rows c.args.words.now _ c.deref-values.result.now refl (c.in_ok-settings.ensures {u = tt}).ok c.deref-values.ensures.value).rounds
+
+pub overflow_cast-result-7 : goal.overflow_cast-result-7
+overflow_cast-result-7 c = omega (arith, number_within 0 MOST_ROUNDS (value_at key.Rounds c.deref-values.result.now) (trial_values trial_rows c.args.words.now _ c.deref-values.result.now refl (c.in_ok-settings.ensures {u = tt}).ok c.deref-values.ensures.value).rounds)
+
+pub number_at-requires-8 : goal.number_at-requires-8
+number_at-requires-8 c = numeric 0 GREATEST_SEED (value_at key.Seed c.deref-values.result.now) (trial_values trial_rows c.args.words.now _ c.deref-values.result.now refl (c.in_ok-settings.ensures {u = tt}).ok c.deref-values.ensures.value).seed
 
 pub returns-clause-lawful : goal.returns-clause-lawful
 returns-clause-lawful c = trial_lawful trial_rows c.args.words.now _ c.deref-values.result.now refl (c.in_ok-settings.ensures {u = tt}).ok c.deref-values.ensures.value _ (grind (arith, common_steps))

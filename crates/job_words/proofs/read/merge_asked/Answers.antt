@@ -1,9 +1,0 @@
-use Rattle.std.proofs.Common.{arith}
-use Rattle.std.proofs.lemmas.Grind.{common_steps}
-use Rattle.job_words.proofs.read.merge_asked.Goals as goal
-
-pub returns-clause-exact : goal.returns-clause-exact
-returns-clause-exact c = grind (arith, common_steps)
-
-pub returns-clause-lawful : goal.returns-clause-lawful
-returns-clause-lawful c = grind (arith, common_steps)

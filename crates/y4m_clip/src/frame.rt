@@ -2,7 +2,7 @@
 ghost use Rattle.std.specs.Prelude.{◌≡◌, ◌≤◌, ◌<◌, ◌+◌, ◌*◌, ◌^◌, length, IfOk, IfSome, IfNone, ◌≢◌};
 ghost use Rattle.std.specs.List.{AllByRecursion};
 ghost use Rattle.shelf_traits.specs.Files.{OnlyReadsFile};
-ghost use Rattle.y4m_clip.specs.Frames.{IsFirstEnd, IsEarly, IsFrameScanned, frame_judged, FindsFrameAs, FillsPlanesAs, ReadsFrameAs, grown_by};
+ghost use Rattle.y4m_clip.specs.Frames.{IsFirstEnd, IsEarly, IsFrameScanned, frame_judged, FillsPlanesAs, ReadsFrameAs, grown_by};
 ghost use Rattle.y4m_clip.specs.Clips.{frame_cells};
 ghost use Rattle.y4m_clip.specs.Spaces.{samples_of};
 
@@ -73,7 +73,8 @@ fn judge(scan: FrameScan, at: u64, count: usize) -> Result<Option<usize>, ReadEr
     requires at { at < 2 ^ 62 }
     requires count { count < 2 ^ 62 }
     requires early { IsEarly scan }
-    ensures { result ≡ frame_judged at count scan }
+    ensures judged { result ≡ frame_judged at count scan }
+    ensures short { IfOk result (λ found. IfSome found (λ n. n ≤ MOST_LINE_BYTES)) }
 {
     match scan {
         FrameScan::Nothing => Ok(None),
@@ -89,22 +90,6 @@ fn judge(scan: FrameScan, at: u64, count: usize) -> Result<Option<usize>, ReadEr
             Ok(Some(n))
         },
     }
-}
-
-/// The length of the frame line at a place of the file; None where the file ends there.
-pub fn find_frame<S: Shelf>(
-    shelf: &mut S,
-    name: &str,
-    at: u64,
-    buffer: &mut [u8; LINE_ROOM],
-) -> Result<Option<usize>, ReadError>
-    requires { at < 2 ^ 62 }
-    ensures found { FindsFrameAs name.now at (S.state shelf.old) (S.state shelf.new) result }
-    ensures short { IfOk result (λ found. IfSome found (λ n. n ≤ MOST_LINE_BYTES)) }
-    ensures reads { OnlyReadsFile name.now (S.state shelf.old) (S.state shelf.new) }
-{
-    let count = shelf.get(name, at, buffer)?;
-    judge(scan_frame(&buffer[..count]), at, count)
 }
 
 /// Fills the planes of a frame from a place of the file.
@@ -151,7 +136,8 @@ pub fn read_frame<S: Shelf>(
     ensures reads { OnlyReadsFile name.now (S.state shelf.old) (S.state shelf.new) }
 {
     let mut buffer = [0u8; LINE_ROOM];
-    let Some(length) = find_frame(shelf, name, at, &mut buffer)? else {
+    let count = shelf.get(name, at, &mut buffer)?;
+    let Some(length) = judge(scan_frame(&buffer[..count]), at, count)? else {
         return Ok(None);
     };
     let start = at + length as u64;

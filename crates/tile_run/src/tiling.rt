@@ -21,19 +21,6 @@ struct Work {
     placements: u64,
 }
 
-// With no cell filled.
-fn begin(alloc: Global, plan: &RunPlan, sample: &Volume) -> Result<Work, AllocError>
-    requires plan { IsRunPlan plan.now }
-    ensures { IfOk result (IsWork plan.now sample.now) }
-{
-    let canvas = Canvas::empty(alloc, plan.size, sample.samples())?;
-    Ok(Work {
-        canvas,
-        draws: Draws::from_seed(plan.seed),
-        placements: 0,
-    })
-}
-
 // Lays the next patch; false where the canvas is full.
 fn step(
     alloc: Global,
@@ -73,7 +60,12 @@ pub fn tile_canvas(alloc: Global, plan: &RunPlan, sample: &Volume) -> Result<Til
     ensures { IfOk result (IsTiledTo plan.now sample.now) }
 {
     let sums = SampleSums::make(alloc, sample)?;
-    let mut work = begin(alloc, plan, sample)?;
+    let canvas = Canvas::empty(alloc, plan.size, sample.samples())?;
+    let mut work = Work {
+        canvas,
+        draws: Draws::from_seed(plan.seed),
+        placements: 0,
+    };
     let mut more = true;
     'laying: while more {
         more = step(alloc, plan, sample, &sums, &mut work)?;

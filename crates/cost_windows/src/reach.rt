@@ -138,7 +138,8 @@ fn less_one(axis: Axis, size: Size) -> Size
     less
 }
 
-// Puts what the pairs along one axis cost in each window whose corner is in a block into the sums.
+// Puts what the pairs along one axis cost in each window whose corner is in a block into the sums, added to
+// those where these are kept.
 fn put_axis(
     sums: &mut [u64],
     scratch: &mut [u64],
@@ -169,46 +170,17 @@ fn put_axis(
     ensures others { SameElsewhere (corners map.now.size window) block.now sums.old sums.new }
 {
     let output = map.size();
+    let less = less_one(axis, window);
+    // Where the window has one cell along the axis, it has no such pair.
+    if keep && !has_cells(less) {
+        return;
+    }
     let reach = block.reach(output, window);
     let size = reach.size();
     let costs = &mut scratch[..size.cells()];
     fill(costs, map, sample, &reach, axis);
-    sum_boxes(costs, size, less_one(axis, window));
+    sum_boxes(costs, size, less);
     put_rows(sums, corners(output, window), block, costs, size, keep);
-}
-
-// The same, added to the sums. Where the window has one cell along the axis, it has no such pair.
-fn add_axis(
-    sums: &mut [u64],
-    scratch: &mut [u64],
-    map: &Map,
-    sample: &Volume,
-    window: Size,
-    block: &Block,
-    axis: Axis,
-)
-    requires window { IsWindow map.now.size window }
-    requires some { HasCells (block_size block.now) }
-    requires inside { HoldsBlock (corners map.now.size window) block.now }
-    requires sums { length sums.old ≡ cell_count (corners map.now.size window) }
-    requires scratch { length scratch.old ≡ cell_count map.now.size }
-    requires fits { EachOfRows block.now (λ row k.
-        slice_index sums.old (row_start (corners map.now.size window) block.now row + k) ≤ 2 ^ 60) }
-    ensures put { EachOfRows block.now (λ row k.
-        slice_index sums.new (row_start (corners map.now.size window) block.now row + k)
-        ≡ slice_index sums.old (row_start (corners map.now.size window) block.now row + k)
-        + at_row block.now (axis_sum (distance sample.now) (map_at map.now) axis window) row k) }
-    ensures small { EachOfRows block.now
-        (λ row k. slice_index sums.new (row_start (corners map.now.size window) block.now row + k)
-        ≤ slice_index sums.old (row_start
-        (corners map.now.size window) block.now row + k) + most_after_three) }
-    ensures others { SameElsewhere (corners map.now.size window) block.now sums.old sums.new }
-{
-    let _size = map.size();
-    let less = less_one(axis, window);
-    if has_cells(less) {
-        put_axis(sums, scratch, map, sample, window, block, axis, true);
-    }
 }
 
 /// Makes the sums of all windows with a corner in a block those of a map. The scratch memory has as
@@ -234,6 +206,6 @@ pub(crate) fn refresh(
         slice_index sums.new i ≡ slice_index sums.old i }
 {
     put_axis(sums, scratch, map, sample, window, block, Axis::X, false);
-    add_axis(sums, scratch, map, sample, window, block, Axis::Y);
-    add_axis(sums, scratch, map, sample, window, block, Axis::F);
+    put_axis(sums, scratch, map, sample, window, block, Axis::Y, true);
+    put_axis(sums, scratch, map, sample, window, block, Axis::F, true);
 }

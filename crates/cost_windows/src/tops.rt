@@ -10,20 +10,13 @@ use crate::block::Block;
 use cells::Size;
 use limits::{GREATEST_AXIS, MOST_CELLS};
 
-// The greater of two numbers.
-fn greater(a: u64, b: u64) -> u64
-    ensures { result ≡ max a b }
-{
-    if a < b { b } else { a }
-}
-
 // The greatest number of a row; 0 where there is none.
 fn top_of(row: &[u64]) -> u64
     ensures { result ≡ max_to (length row.now) (slice_index row.now) }
 {
     let mut top = 0;
     for k in 0..row.len() {
-        top = greater(top, row[k]);
+        top = top.max(row[k]);
     }
     top
 }

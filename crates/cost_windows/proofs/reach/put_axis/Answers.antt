@@ -1,11 +1,13 @@
 use Rattle.std.proofs.Common.{arith}
 use Rattle.std.proofs.lemmas.Grind.{common_steps}
-use Rattle.std.proofs.Common.{◌+◌, ap, ◌∙◌, subst}
+use Rattle.std.proofs.Common.{◌+◌, ◌/◌, ◌%◌, ap, ◌∙◌, sym, subst}
+use mathlib.Core.Bool.{false≢true}
+use Rattle.cells.specs.Boxes.{HasCells}
 use Rattle.cells.specs.Distances.{distance}
 use Rattle.map_canvas.specs.Maps.{map_at}
 use Rattle.cost_windows.specs.Slides.{AreCosts, block_size, box_run, row_start}
 use Rattle.cost_windows.specs.Tables.{corners}
-use Rattle.cost_windows.proofs.Reaches.{axis_of_runs}
+use Rattle.cost_windows.proofs.Reaches.{axis_none, axis_of_runs}
 use Rattle.cost_windows.proofs.reach.put_axis.Goals as goal
 
 pub returns-clause-others : goal.returns-clause-others
@@ -21,7 +23,7 @@ returns-clause-put c =
     let sums =
     axis_of_runs d m c.args.axis c.args.window c.args.block.now c.fill.new.costs c.sum_boxes.new.buffer c.requires.window.some
     (subst (λ reach. AreCosts d m c.args.axis reach c.fill.new.costs) same c.fill.ensures.costs)
-    (λ j. c.sum_boxes.ensures.sums j ∙ (λ i. box_run ((c.size-size.ensures ∙ ap block_size same) i) (c.less_one.ensures.less i) c.fill.new.costs j)) in
+    (λ j. c.sum_boxes.ensures.sums j ∙ (λ i. box_run ((c.size-size.ensures ∙ ap block_size same) i) (c.less_one-less.ensures.less i) c.fill.new.costs j)) in
     grind (arith, common_steps, sums)
 
 pub put_rows-requires-clause-fits : goal.put_rows-requires-clause-fits
@@ -95,8 +97,17 @@ put_rows-requires-clause-some c = grind (arith, common_steps)
 pub put_rows-requires-clause-small : goal.put_rows-requires-clause-small
 put_rows-requires-clause-small c = grind (arith, common_steps)
 
-pub less_one-requires-clause-some : goal.less_one-requires-clause-some
-less_one-requires-clause-some c = grind (arith, common_steps)
+pub less_one-less-requires-clause-some : goal.less_one-less-requires-clause-some
+less_one-less-requires-clause-some c = grind (arith, common_steps)
 
-pub less_one-requires-clause-lens : goal.less_one-requires-clause-lens
-less_one-requires-clause-lens c = grind (arith, common_steps)
+pub less_one-less-requires-clause-lens : goal.less_one-less-requires-clause-lens
+less_one-less-requires-clause-lens c = grind (arith, common_steps)
+
+pub returns-then-not-has_cells-clause-put : goal.returns-then-not-has_cells-clause-put
+returns-then-not-has_cells-clause-put c = rw c.if-keep.true (λ row k below lt.
+    let block = c.args.block.now in
+    omega (
+      arith,
+      axis_none (distance c.args.sample.now) (map_at c.args.map.now) c.args.axis c.args.window (block.x.from + k) (block.y.from + row % block.y.len) (block.f.from + row / block.y.len)
+          (λ some. false≢true (sym c.if-not-has_cells.true ∙ c.has_cells.ensures.1 (subst HasCells (sym c.less_one-less.ensures.less) some))),
+    ))

@@ -55,20 +55,6 @@ fn without(alloc: Global, map: &Map, marks: &Volume, number: u32) -> Result<Map,
     Ok(Map::from_sources(size, sources))
 }
 
-// The same of the map of a canvas, which is given back.
-fn map_without(
-    alloc: Global,
-    canvas: Canvas,
-    marks: &Volume,
-    number: u32,
-) -> Result<Map, AllocError>
-    ensures { IfOk result (λ m. m ≡ without canvas.map marks.now number) }
-{
-    let map = without(alloc, canvas.map(), marks, number);
-    drop(canvas);
-    map
-}
-
 // The whole output, laid from the same place of a picture.
 fn whole_from(pictures: &Volume, number: u32, size: Size) -> Placement
     requires one_size { AreOneSize pictures.now }
@@ -110,7 +96,9 @@ pub fn merge_step(
     ensures stands { IfOk result (λ next. StandsOver next pictures.now) }
     ensures canvas { IfOk result IsCanvas }
 {
-    let map = map_without(alloc, canvas, marks, number)?;
+    let rest = without(alloc, canvas.map(), marks, number);
+    drop(canvas);
+    let map = rest?;
     let size = map.size();
     let held = earlier_marks(alloc, marks, size, number)?;
     let mut next = Canvas::of_map(alloc, map, pictures)?;

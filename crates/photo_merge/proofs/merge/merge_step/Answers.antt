@@ -14,11 +14,14 @@ module _ (c : After-deref) where
   abbrev before : SourceMap
   before = c.args.canvas.map
 
+  rest_is : c.in_ok-map.map ≡ without before c.args.marks.now c.args.number
+  rest_is = c.in_ok-map.ensures {u = tt} ∙ ap (λ (m : SourceMap). without m c.args.marks.now c.args.number) c.map.ensures.map
+
   size_is : c.size-size.result ≡ before.size
-  size_is = c.size-size.ensures.size ∙ ap (λ (m : SourceMap). m.size) (c.in_ok-map.ensures {u = tt})
+  size_is = c.size-size.ensures.size ∙ ap (λ (m : SourceMap). m.size) rest_is
 
   next_is : c.in_ok-next.next.map ≡ without before c.args.marks.now c.args.number
-  next_is = (c.in_ok-next.ensures {u = tt}).map ∙ c.in_ok-map.ensures {u = tt}
+  next_is = (c.in_ok-next.ensures {u = tt}).map ∙ rest_is
 
   placement_is : c.whole_from-placement.result ≡ whole_from c.args.pictures.now c.args.number before.size
   placement_is = c.whole_from-placement.ensures.placement ∙ ap (whole_from c.args.pictures.now c.args.number) size_is
@@ -28,7 +31,7 @@ module _ (c : After-deref) where
 
 pub of_map-requires : goal.of_map-requires
 of_map-requires c =
-    subst (λ m. IsOver m c.args.pictures.now) (sym (c.in_ok-map.ensures {u = tt}))
+    subst (λ m. IsOver m c.args.pictures.now) (sym (c.in_ok-map.ensures {u = tt} ∙ ap (λ (m : SourceMap). without m c.args.marks.now c.args.number) c.map.ensures.map))
     (without_over c.args.canvas.map c.args.marks.now c.args.number c.args.pictures.now c.requires.stands.over)
 
 pub place_held-placed-requires-clause-held : goal.place_held-placed-requires-clause-held

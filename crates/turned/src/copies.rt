@@ -1,9 +1,9 @@
 // The turns of each part of a volume, as parts of one volume.
-ghost use Rattle.std.specs.Prelude.{◌≡◌, ◌≤◌, ◌<◌, ◌⊎◌, ◌+◌, ◌*◌, ◌-◌, ◌++◌, [], IfOk, OnOk, length, map, unwrap_or};
+ghost use Rattle.std.specs.Prelude.{◌≡◌, ◌≤◌, ◌<◌, ◌⊎◌, ◌+◌, ◌*◌, ◌-◌, ◌++◌, [], IfOk, OnOk, length, map};
 ghost use Rattle.std.specs.List.{concat};
 ghost use Rattle.cells.specs.Places.{IsInside, cell_count, places, spot};
 ghost use Rattle.cells.specs.SizeLists.{stock_place};
-ghost use Rattle.cells.specs.Cells.{HasCell, IsOnePart, cell_at, count_of, sizes_of};
+ghost use Rattle.cells.specs.Cells.{IsOnePart, count_of, sizes_of};
 ghost use Rattle.turned.specs.Turns.{turn_from, turn_size};
 ghost use Rattle.turned.specs.TurnedParts.{turned, turned_cell, turned_of};
 ghost use Rattle.turned.specs.TurnedPlaces.{sample_size};
@@ -49,14 +49,6 @@ fn source_of(sizes: &Sizes, number: u32, turn: u32, at: At) -> At
     sizes.stock(number, turn_from(turn, sizes.at(number), at))
 }
 
-// The samples of a place that has a cell.
-fn cell_at(samples: &Volume, at: At) -> &[u8]
-    requires { HasCell samples.now at }
-    ensures { result.now ≡ unwrap_or (cell_at samples.now at) [] }
-{
-    samples.cell(at).unwrap()
-}
-
 // Puts the cells of a row of a turned part after others, one by one.
 fn push_cells(
     bytes: &mut Vec<u8>,
@@ -76,7 +68,7 @@ fn push_cells(
     let _k = samples.samples();
     for x in 0..it.size.w {
         let at = source_of(sizes, it.number, it.turn, spot_of(x, y, f));
-        bytes.extend_from_slice(cell_at(samples, at))?;
+        bytes.extend_from_slice(samples.cell(at).unwrap())?;
     }
     Ok(())
 }

@@ -2,13 +2,12 @@
 ghost use Rattle.std.specs.Prelude.{◌≡◌, ◌≤◌, ◌+◌, ◌-◌, ◌*◌, ◌++◌, length, map};
 ghost use Rattle.std.specs.List.{range_with_len};
 ghost use Rattle.cells.specs.Places.{HasAxes};
-ghost use Rattle.cells.specs.SizeLists.{IsPartPlace};
 ghost use Rattle.turned.specs.Turns.{turn_size};
 ghost use Rattle.turned.specs.TurnedParts.{turned_sizes_of};
 ghost use Rattle.turned.specs.TurnedPlaces.{IsInTurned, IsTurned, IsUntouched, turned_place};
 
 use crate::turn::{TURNS, turn_from, turn_to, turned_size};
-use cells::{At, PartPlace, Size, Sizes};
+use cells::{At, Size, Sizes};
 
 /// The most samples that are turned: as many parts as a volume may have are their turns.
 pub const MOST_TURNED: u32 = 2;
@@ -56,17 +55,6 @@ pub fn turned_sizes(samples: &Sizes) -> Sizes
     sizes
 }
 
-// The turned part that has a place.
-fn part_of(samples: &Sizes, sizes: &Sizes, at: At) -> PartPlace
-    requires sizes { sizes.now ≡ turned_sizes_of samples.now }
-    requires inside { IsInTurned samples.now at }
-    ensures part { IsPartPlace (turned_sizes_of samples.now) at result }
-    ensures from { 1 ≤ result.part }
-    ensures to { result.part ≤ TURNS * length samples.now }
-{
-    sizes.part_of(at).unwrap()
-}
-
 /// The same as [`untouched`], for a caller that has the sizes of the turned samples.
 pub fn untouched_with(samples: &Sizes, sizes: &Sizes, at: At) -> Turned
     requires few { length samples.now ≤ MOST_TURNED }
@@ -75,7 +63,7 @@ pub fn untouched_with(samples: &Sizes, sizes: &Sizes, at: At) -> Turned
     ensures untouched { IsUntouched samples.now at result }
     ensures back { turned_place samples.now result ≡ at }
 {
-    let there = part_of(samples, sizes, at);
+    let there = sizes.part_of(at).unwrap();
     let sample = (there.part - 1) / TURNS + 1;
     let turn = (there.part - 1) % TURNS;
     Turned {

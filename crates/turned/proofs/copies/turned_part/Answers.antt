@@ -3,7 +3,6 @@ use Rattle.std.specs.Prelude.{unwrap_or}
 use Rattle.cells.specs.Places.{cell_count}
 use Rattle.cells.specs.Cells.{volume_of}
 use Rattle.turned.specs.Turns.{turn_size}
-use Rattle.turned.specs.TurnedPlaces.{sample_size}
 use Rattle.turned.proofs.Copying.{bytes_it, part_turn_is, whole_it}
 use Rattle.turned.proofs.copies.turned_part.Goals as goal
 

@@ -119,23 +119,6 @@ fn pairs_after(after: &After, at: Counts, i: usize) -> u32
         + pair_after(after, Axis::F, at, i, a)
 }
 
-// The window sum of the box.
-fn sum_after(after: &After) -> u64
-    ensures { result ≡ window_after (distance after.now.sample.now) after.now.map.now
-        after.now.placement.now after.now.choice.now }
-{
-    // Called for its contract only: it shows the prover that there is a map.
-    let _map = after.map.size();
-    let size = after.placement.rect.size;
-    let mut at = Counts::first();
-    let mut sum: u64 = 0;
-    for i in 0..size.cells() {
-        sum += u64::from(pairs_after(after, at, i));
-        at = at.next(size);
-    }
-    sum
-}
-
 /// The window sum that the box of a placement would have after a choice: what `window` gives once the
 /// choice is put in. Past its end the choice says old. It takes no memory.
 pub fn window_after(canvas: &Canvas, sample: &Volume, placement: &Placement, choice: &[bool]) -> u64
@@ -143,12 +126,20 @@ pub fn window_after(canvas: &Canvas, sample: &Volume, placement: &Placement, cho
     ensures { result ≡ window_after (distance sample.now) canvas.now.map placement.now choice.now }
 {
     let map = canvas.map();
-    let _size = map.size();
+    // Called for its contract only: it shows the prover that there is a map.
+    let _map = map.size();
     let after = After {
         map,
         sample,
         placement,
         choice,
     };
-    sum_after(&after)
+    let size = placement.rect.size;
+    let mut at = Counts::first();
+    let mut sum: u64 = 0;
+    for i in 0..size.cells() {
+        sum += u64::from(pairs_after(&after, at, i));
+        at = at.next(size);
+    }
+    sum
 }

@@ -6,11 +6,11 @@ use Rattle.boxes.specs.Pairs.{at_index}
 use Rattle.boxes.specs.Walks.{IsAtIndex}
 use Rattle.costs.specs.Choosing.{within_after}
 use Rattle.costs.specs.Costs.{most_of_cell, pairs_at}
-use Rattle.costs.proofs.after.sum_after.Given as goal
+use Rattle.costs.proofs.after.window_after.Given as goal
 
 abbrev pub invariant-loop-i : goal.invariant-loop-i
 invariant-loop-i l = record {
-  at : IsAtIndex l.after.placement.now.rect.size l.i l.at.x l.at.y l.at.f;
-  sum : l.sum ≡ sum_to l.i (at_index l.after.placement.now.rect.size (λ x y f. pairs_at (distance l.after.sample.now) (within_after l.after.map.now l.after.placement.now l.after.choice.now) (cell_in l.after.placement.now.rect x y f)));
+  at : IsAtIndex l.placement.rect.size l.i l.at.x l.at.y l.at.f;
+  sum : l.sum ≡ sum_to l.i (at_index l.placement.rect.size (λ x y f. pairs_at (distance l.sample) (within_after l.after.0.now l.placement l.choice) (cell_in l.placement.rect x y f)));
   fits : l.sum ≤ most_of_cell * l.i;
 }

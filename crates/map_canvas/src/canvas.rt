@@ -1,14 +1,15 @@
 // A map with its picture.
-ghost use Rattle.std.specs.Prelude.{◌≡◌, ◌<◌, ◌≤◌, ◌+◌, ◌*◌, ◌%◌, ◌+ℤ◌, ◌≤ℤ◌, ◌↔◌, ℕ, pos, length, slice_index_or, true, false, IfOk, IfSome, IsTrue, None};
-ghost use Rattle.cells.specs.Places.{IsSmall, IsInside, plus, spot};
-ghost use Rattle.cells.specs.Cells.{Cells, HasRun, IsVolume, row_at};
-ghost use Rattle.map_canvas.specs.Maps.{IsFilled, IsFull, IsMap, IsOver, IsSource, first_unfilled, picture_of};
+ghost use Rattle.std.specs.Prelude.{◌≡◌, ◌<◌, ◌≤◌, ◌+◌, ◌*◌, ◌%◌, ◌+ℤ◌, ◌≤ℤ◌, ◌↔◌, pos, length, slice_index_or, true, false, IfOk, IfSome, IsTrue, None};
+ghost use Rattle.cells.specs.Places.{IsSmall, IsInside};
+ghost use Rattle.cells.specs.Cells.{Cells, IsVolume, row_at};
+ghost use Rattle.map_canvas.specs.Maps.{IsFilled, IsFull, IsMap, IsOver, first_unfilled, picture_of};
 ghost use Rattle.map_canvas.specs.Runs.{AreNew, put_copies, with_run};
 ghost use Rattle.map_canvas.specs.Canvases.{IsCanvas, IsFilledPrefix, IsKept, StandsOver, empty_canvas, filled_marks};
 ghost use Rattle.map_canvas.specs.Choices.{Fits, IsAfter, box_cell, box_count, box_source, map_after};
 
 use crate::Map;
 use crate::kept::meets_outside;
+use crate::map::filled_from;
 use crate::rendered::is_rendered;
 use crate::shown::{mark_bytes, shown_bytes};
 use cells::{At, Box3, Size, Volume};
@@ -47,32 +48,6 @@ impl Model for Canvas {
 
     ghost invariant = { λ a. IsCanvas (record { map = a.map; picture = a.picture })
         × IsFilledPrefix a.map a.reached × (a.marks ≡ filled_marks a.map a.picture.k) };
-}
-
-// Fills a run of cells along X from the sample.
-fn fill_run(
-    map: &mut Map,
-    picture: &mut Volume,
-    marks: &mut Volume,
-    sample: &Volume,
-    p: At,
-    from: At,
-    w: u32,
-)
-    requires inside { IsInside map.old.size p }
-    requires room { (p.x +ℤ pos w) ≤ℤ pos map.old.size.w }
-    requires canvas { IsCanvas (record { map = map.old; picture = picture.old }) }
-    requires samples { picture.old.k ≡ sample.now.k }
-    requires marks { marks.old ≡ filled_marks map.old picture.old.k }
-    requires run { HasRun sample.now from w }
-    requires sources { (j : ℕ) → j < w → IsSource (plus from (spot j 0 0)) }
-    ensures map { map.new ≡ with_run map.old p from w }
-    ensures picture { picture.new ≡ put_copies picture.old sample.now p from w }
-    ensures marks { marks.new ≡ filled_marks map.new picture.new.k }
-{
-    picture.set_row(p, w, sample.row(from, w));
-    marks.fill_row(p, w, 1);
-    map.set_row(p, from, w);
 }
 
 // How many cells a choice makes new, from one that it does on, as far as so many.
@@ -124,7 +99,9 @@ fn fill_from(
     let n = new_cells(choice, i, placement.rect.size.w - step.x as u32);
     let p = placement.rect.corner.plus(step);
     let from = placement.from.plus(step);
-    fill_run(map, picture, marks, sample, p, from, n);
+    picture.set_row(p, n, sample.row(from, n));
+    marks.fill_row(p, n, 1);
+    map.set_row(p, from, n);
     n
 }
 
@@ -206,7 +183,7 @@ impl Canvas {
         let n = k as usize * size.cells();
         let shown = shown_bytes(alloc, map.sources(), sample, n)?;
         let marks = mark_bytes(alloc, map.sources(), k, n)?;
-        let reached = map.filled(0);
+        let reached = filled_from(map.sources(), 0);
         Ok(Canvas {
             map,
             picture: Volume::from_bytes(size, k, shown),
@@ -297,6 +274,6 @@ impl Canvas {
             placement,
             choice,
         );
-        self.reached = self.map.filled(self.reached);
+        self.reached = filled_from(self.map.sources(), self.reached);
     }
 }

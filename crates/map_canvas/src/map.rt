@@ -31,8 +31,9 @@ impl Model for Map {
     ghost invariant = { λ a. IsMap (record { size = a.size; sources = a.sources.items }) };
 }
 
-// How many entries, from the first on, are sources. The first `start` of them are known to be.
-fn filled_from(sources: &[Entry], start: usize) -> usize
+/// How many entries, from the first on, are sources. The first `start` of them are known to be, and aren't
+/// looked at again.
+pub(crate) fn filled_from(sources: &[Entry], start: usize) -> usize
     requires { start ≤ position_or_len is_none sources.now }
     ensures { result ≡ position_or_len is_none sources.now }
 {
@@ -122,14 +123,5 @@ impl Map {
     {
         let i = self.size.index_of(p).unwrap();
         name_run(&mut self.sources, i, from, w);
-    }
-
-    /// How many cells, from the first in raster order on, are filled. The first `start` of them are
-    /// known to be, and aren't looked at again.
-    pub(crate) fn filled(&self, start: usize) -> usize
-        requires { start ≤ position_or_len is_none self.now.sources }
-        ensures { result ≡ position_or_len is_none self.now.sources }
-    {
-        filled_from(&self.sources, start)
     }
 }

@@ -1,7 +1,8 @@
 use Rattle.std.proofs.Common.{arith}
 use Rattle.std.proofs.lemmas.Grind.{common_steps}
 use Rattle.std.proofs.Common.{◌≡◌, ◌*◌, length, map, ap, sym, ◌∙◌, subst}
-use Rattle.std.specs.List.{concat}
+use Rattle.std.specs.Prelude.{is_none}
+use Rattle.std.specs.List.{concat, position_or_len}
 use Rattle.cells.specs.Cells.{Cells, volume_of}
 use Rattle.cells.specs.Places.{cell_count}
 use Rattle.map_canvas.specs.Canvases.{CanvasState, IsCanvas, StandsOver, filled_marks, mark_of}
@@ -40,7 +41,7 @@ invariant_of-result c =
     c.from_bytes-2.ensures.volume ∙ ap (volume_of c.size-size.result k) (c.in_ok-marks.ensures {u = tt} ∙ ap (λ sources. concat (map (mark_of k) sources)) c.sources-2.ensures)
     ∙ ap (λ size. volume_of size k (concat (map (mark_of k) m.sources))) c.size-size.ensures.size ∙ marks_of_bytes m is k in
     let canvas : ◌≡◌ {A = CanvasState} (record { map = m; picture = c.from_bytes.result }) (record { map = m; picture = picture m sample is volume c.requires }) = λ i. record { map = m; picture = shown i } in
-    (subst IsCanvas (sym canvas) (map_is_canvas m sample is volume c.requires), c.filled-reached.ensures, marks ∙ ap (filled_marks m) (c.samples-k.ensures.samples ∙ sym (ap (λ (v : Cells). v.k) shown)))
+    (subst IsCanvas (sym canvas) (map_is_canvas m sample is volume c.requires), c.filled_from-reached.ensures ∙ ap (position_or_len is_none) c.sources-3.ensures, marks ∙ ap (filled_marks m) (c.samples-k.ensures.samples ∙ sym (ap (λ (v : Cells). v.k) shown)))
 
 pub returns-clause-canvas : goal.returns-clause-canvas
 returns-clause-canvas c = (invariant_of-result c).0

@@ -9,10 +9,11 @@ use Rattle.map_canvas.proofs.Afters.{after_one}
 use Rattle.map_canvas.proofs.AfterLaws.{front_stays}
 use Rattle.map_canvas.proofs.canvas.Canvas.put_choice.Goals as goal
 
-pub filled-self-inside-requires : goal.filled-self-inside-requires
-filled-self-inside-requires c =
-    subst (λ reached. reached ≤ position_or_len is_none c.fill_choice.new.map.sources) (sym c.self.invariant.1)
-    (front_stays c.self.inside.map c.args.placement.now c.args.choice.now c.fill_choice.new.map c.self.invariant.0.map c.fill_choice.ensures.canvas.map c.fill_choice.ensures.after)
+pub filled_from-self-inside-requires : goal.filled_from-self-inside-requires
+filled_from-self-inside-requires c =
+    subst (λ sources. c.self.inside.reached ≤ position_or_len is_none sources) (sym c.sources.ensures)
+    (subst (λ reached. reached ≤ position_or_len is_none c.fill_choice.new.map.sources) (sym c.self.invariant.1)
+    (front_stays c.self.inside.map c.args.placement.now c.args.choice.now c.fill_choice.new.map c.self.invariant.0.map c.fill_choice.ensures.canvas.map c.fill_choice.ensures.after))
 
 pub returns-clause-map : goal.returns-clause-map
 returns-clause-map c =

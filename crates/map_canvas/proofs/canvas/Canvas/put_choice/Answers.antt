@@ -22,3 +22,10 @@ returns-clause-map c =
 
 pub fill_choice-requires-clause-fits : goal.fill_choice-requires-clause-fits
 fill_choice-requires-clause-fits c = grind (arith, common_steps)
+
+pub invariant_of-self : goal.invariant_of-self
+invariant_of-self c = (
+  c.fill_choice.ensures.canvas,
+  c.filled_from-self-inside.ensures ∙ ap (position_or_len is_none) c.sources.ensures,
+  c.fill_choice.ensures.marks,
+)

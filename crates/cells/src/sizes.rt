@@ -23,8 +23,8 @@ pub struct PartPlace {
 /// The sizes of the 1 to 16 parts of a volume, in a fixed array.
 #[derive(Drop)]
 pub struct Sizes {
-    first: Size,
-    more: More,
+    pub(crate) first: Size,
+    pub(crate) more: More,
 }
 
 impl Model for Sizes {
@@ -62,17 +62,6 @@ impl Sizes {
         Sizes {
             first: size,
             more: More::none(),
-        }
-    }
-
-    // The sizes of a volume's parts.
-    pub(crate) fn of(first: Size, more: &More) -> Sizes
-        requires { AreSizes (first ∷ more.now) }
-        ensures { result ≡ first ∷ more.now }
-    {
-        Sizes {
-            first,
-            more: more.copied(),
         }
     }
 

@@ -209,7 +209,10 @@ impl Volume {
     pub fn sizes(&self) -> Sizes
         ensures { result ≡ sizes_of self.now }
     {
-        Sizes::of(self.size, &self.more)
+        Sizes {
+            first: self.size,
+            more: self.more.copied(),
+        }
     }
 
     /// Puts the one part of another volume after the parts of this one, with one empty frame between.

@@ -2,5 +2,5 @@ use Rattle.std.proofs.Common.{arith}
 use Rattle.std.proofs.lemmas.Grind.{common_steps}
 use Rattle.cells.proofs.volume.Volume.sizes.Goals as goal
 
-pub of-requires : goal.of-requires
-of-requires c = grind (arith, common_steps)
+pub invariant_of-result : goal.invariant_of-result
+invariant_of-result c = grind (arith, common_steps)

@@ -100,11 +100,9 @@ class Source:
 
     def commands(self):
         read = text(WORDS / "read.rt")
-        clauses = r"[^{}]*\{[^}]*\}[^{}]*\{[^}]*\}"
-        called = dict(re.findall(rf"^fn (\w+)\({clauses}\s*\{{\s*Ok\(Job::\w+\((read_\w+)\(", read, re.M))
-        asked = re.findall(r'"(\w+)" => (\w+)\(alloc, words\)', read)
-        # A command's word leads to a reader, or to a function that only calls one.
-        return {command: self.rows(called.get(function, function)) for command, function in asked}
+        # A command's word leads to a reader, whose job may be wrapped at once.
+        asked = re.findall(r'"(\w+)" => (?:Ok\(Job::\w+\()?(\w+)\(alloc, words\)', read)
+        return {command: self.rows(function) for command, function in asked}
 
 
 def keys_of(cell):

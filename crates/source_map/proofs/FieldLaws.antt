@@ -1,10 +1,10 @@
 -- Laws of what is read field by field.
-use Rattle.std.proofs.Common.{◌≡◌, true, false, ℕ, ◌++◌, zero, suc, ◌-◌, ◌+◌, ◌<◌, ◌^◌, List, [], ◌∷◌, length, take, drop, refl, sym, ap, ◌∙◌, subst, arith}
-use Rattle.std.proofs.lemmas.Bool.{le-leb, lt-leb}
+use Rattle.std.proofs.Common.{◌≡◌, Bool, true, false, ℕ, ◌++◌, zero, suc, ◌-◌, ◌+◌, ◌/◌, ◌<◌, ◌≤◌, ◌^◌, List, [], ◌∷◌, length, take, drop, refl, sym, ap, ◌∙◌, subst, arith}
+use Rattle.std.proofs.lemmas.Bool.{le-leb, lt-leb, ltb-false, ltb-true}
 use Rattle.std.proofs.Math.Numerals.{add-one}
 use Rattle.std.proofs.lemmas.Nat.{from_be_bytes-to_be_bytes_2, from_be_bytes-to_be_bytes_4}
 use Rattle.std.specs.Int.{w8, w16, w32, from_be_bytes}
-use Rattle.std.specs.Prelude.{Option, Some, None, Result, Ok, Err, IfErr, nat_le}
+use Rattle.std.specs.Prelude.{Option, Some, None, Result, Ok, Err, IfErr, max, min, nat_le, nat_lt}
 use Rattle.shelf_traits.specs.Files.{Files, ShelfState, OnlyReads, content_of}
 use Rattle.shelf_traits.specs.declared.fault.FormFault.TheVariants.{Form, Depth, Space, Cell, NoFrames, Sample, Trailing}
 use Rattle.shelf_traits.specs.declared.fault.ReadError.{ReadError}
@@ -228,3 +228,11 @@ after_value {A = A} {B = B} memory name place at first second was now r x result
     by (Err NoMemory) rest = rest
     by (Err (Bad fault)) rest = joined (Err (Bad fault)) rest
     by (Err (Limit what number bound)) rest = joined (Err (Limit what number bound)) rest
+
+-- a list for which room was made has room for one item more
+pub room_made : (len was now missing : ℕ) → (len < was → now ≡ was) → (was ≤ len → now ≡ len + min (max (len / 8) 1024) missing) → 0 < missing → len < now
+room_made len was now missing kept grown some = by (nat_lt len was) refl
+  where
+    by : (b : Bool) → nat_lt len was ≡ b → len < now
+    by true lt = let below = ltb-true len was lt in omega (arith, kept below, below)
+    by false lt = omega (arith, grown (ltb-false len was lt), some)

@@ -1,8 +1,8 @@
-use Rattle.std.proofs.Common.{◌≡◌, ◌+◌, ◌<◌, ℕ, List, [], ◌∷◌, ◌++◌, ◌∙◌, ap, arith, length, subst, sym}
+use Rattle.std.proofs.Common.{◌≡◌, ◌+◌, ◌-◌, ◌<◌, ℕ, List, [], ◌∷◌, ◌++◌, ◌∙◌, ap, arith, length, subst, sym}
 use Rattle.std.proofs.lemmas.List.Elements.{All-push}
 use Rattle.std.proofs.lemmas.Result.{err_from_is_err_and}
 use Rattle.std.specs.Int.{w16}
-use Rattle.std.specs.Prelude.{All, Result, Ok, Err}
+use Rattle.std.specs.Prelude.{All, Result, Ok, Err, vec_capacity, vec_len}
 use Rattle.shelf_traits.specs.declared.fault.ReadError.{ReadError}
 use Rattle.shelf_traits.proofs.FileLaws.{only_reads_same, only_reads_then}
 use Rattle.cells.specs.declared.place.Size.{Size}
@@ -12,7 +12,7 @@ use Rattle.source_map.specs.declared.map_file.MapFile.{MapFile}
 use Rattle.source_map.specs.declared.map_file.MapFile.TheVariants.{Frames}
 use Rattle.source_map.specs.MapFiles.{below_rule, frames_read, sample_read}
 use Rattle.source_map.specs.Readings.{Found, ReadsFrom, list_read, number_read}
-use Rattle.source_map.proofs.FieldLaws.{after_value, chain, first_stops, lifted, list_more, list_stops, made, then_reads}
+use Rattle.source_map.proofs.FieldLaws.{after_value, chain, first_stops, lifted, list_more, list_stops, made, room_made, then_reads}
 use Rattle.source_map.proofs.map_reading.read_frames.Goals as goal
 
 abbrev end : Size → Size → List ℕ → ℕ → List ℕ → Result (MapFile × ℕ) ReadError
@@ -139,3 +139,9 @@ returns-clause-lawful g c =
       count = omega (arith, ap length c.from_vec.ensures, so.count, c.loop-i-test.false, c.loop-i.auto.i-end);
       entries = subst (All (λ e. e < c.in_ok-sample.sample.f)) (sym c.from_vec.ensures) so.below;
     }
+
+pub push_reserved-requires : goal.push_reserved-requires
+push_reserved-requires g c =
+    let more = room_made (vec_len c.loop-i.frames) (vec_capacity c.loop-i.frames) (vec_capacity c.make_room.new.items) (c.args.size.f - c.loop-i.i)
+    c.make_room.ensures.kept (c.in_ok-make_room.ensures {u = tt}).grown (omega (arith, c.loop-i-test.true)) in
+    omega (arith, ap length c.make_room.ensures.items, more)

@@ -1,15 +1,15 @@
-use Rattle.std.proofs.Common.{◌≡◌, ◌<◌, ◌+◌, ◌++◌, [], ◌∷◌, ◌∙◌, length, ap, subst, sym, arith}
+use Rattle.std.proofs.Common.{◌≡◌, ◌<◌, ◌+◌, ◌-◌, ◌++◌, [], ◌∷◌, ◌∙◌, length, ap, subst, sym, arith}
 use Rattle.std.proofs.lemmas.List.{length-append}
 use Rattle.std.proofs.lemmas.List.Elements.{All-push}
 use Rattle.std.proofs.lemmas.Result.{err_from_is_err_and}
-use Rattle.std.specs.Prelude.{Err, All, IfSome, IsSomeAnd, Option}
+use Rattle.std.specs.Prelude.{Err, All, IfSome, IsSomeAnd, Option, vec_capacity, vec_len}
 use Rattle.shelf_traits.proofs.FileLaws.{only_reads_then}
 use Rattle.cells.specs.declared.place.At.{At}
 use Rattle.cells.specs.Places.{cell_count}
 use Rattle.source_map.specs.MapFiles.{source_read, IsInSamples}
 use Rattle.source_map.specs.Readings.{Found, list_read}
 use Rattle.source_map.specs.Waiting.{AreSourcesIn}
-use Rattle.source_map.proofs.FieldLaws.{first_stops, lifted, list_more, list_stops}
+use Rattle.source_map.proofs.FieldLaws.{first_stops, lifted, list_more, list_stops, room_made}
 use Rattle.source_map.proofs.SourceLists.{map_end, sources_end}
 use Rattle.map_canvas.specs.Maps.{IsMap, IsSource, SourceMap}
 use Rattle.source_map.proofs.source_reading.read_sources.Goals as goal
@@ -112,3 +112,10 @@ returns-clause-answer g c =
     let all : length c.reading.sources.items ≡ cell_count c.args.size = omega (arith, c.reading.invariant.few, c.len.ensures, c.reading-test.false, c.cells-count.ensures) in
     sources_end c.args.name.now c.args.file.now.at (length c.reading.sources.items) (cell_count c.args.size) (source_read c.args.version c.args.samples.now) c.args.size (state c.args.shelf.now) (state c.reading.shelf)
     c.reading.file c.reading.sources.items c.from_sources.result all c.from_sources.ensures c.reading.invariant.reads c.reading.invariant.found
+
+pub push_reserved-requires : goal.push_reserved-requires
+push_reserved-requires g c =
+    let took = c.take_sources.ensures in
+    let more = room_made (vec_len c.reading.sources) (vec_capacity c.reading.sources) (vec_capacity c.make_room.new.items) (c.cells-count.result - c.len-in-reading.result)
+    c.make_room.ensures.kept (c.in_ok-make_room.ensures {u = tt}).grown (omega (arith, c.reading-test.true, c.len.ensures, c.len-in-reading.ensures)) in
+    omega (arith, took.count, took.capacity, c.if-take_sources-gt0.false, ap length c.make_room.ensures.items, more)

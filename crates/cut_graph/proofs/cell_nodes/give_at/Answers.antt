@@ -2,6 +2,7 @@ use Rattle.std.proofs.Common.{◌≡◌, false, refl, sym, ap, ◌∙◌, subst,
 use Rattle.std.specs.Prelude.{option_copied, slice_index_or}
 use mathlib.Core.Bool.{false≢true}
 use Rattle.cells.specs.Boxes.{IsInBox}
+use Rattle.boxes.proofs.Indices.{index_below}
 use Rattle.costs.proofs.Near.{in_largest}
 use Rattle.costs.specs.Lawful.{StaysOld, is_held, held_marks}
 use Rattle.cut_graph.specs.Building.{IsNodeOf, IsStanding, Old, Unfilled, Free}
@@ -57,3 +58,21 @@ returns-else-is_kept_at-clause-cells c =
     }) in
     let gives = gives_own (IsNodeOf Free) 2 c.args.cells.now c.give_own.new.self c.requires.cells.numbering (omega arith) c.requires.cells.numbering.order c.give_own.ensures in
     more_cells m placement marks at.x at.y at.f c.args.i Free c.args.cells.now c.give_own.new.self c.requires.counts c.requires.index is c.requires.cells gives
+
+pub give-requires : goal.give-requires
+give-requires c =
+    let at = c.args.at in
+    let nodes = c.args.cells.now.nodes in
+    record { room = omega (arith, nodes.ok, c.requires.cells.count, c.requires.room, c.requires.index, index_below c.args.placement.now.rect.size at.x at.y at.f c.requires.counts) }
+
+pub give-requires-then-is_kept_at : goal.give-requires-then-is_kept_at
+give-requires-then-is_kept_at c =
+    let at = c.args.at in
+    let nodes = c.args.cells.now.nodes in
+    record { room = omega (arith, nodes.ok, c.requires.cells.count, c.requires.room, c.requires.index, index_below c.args.placement.now.rect.size at.x at.y at.f c.requires.counts) }
+
+pub give_own-requires-clause-room : goal.give_own-requires-clause-room
+give_own-requires-clause-room c =
+    let at = c.args.at in
+    let nodes = c.args.cells.now.nodes in
+    omega (arith, nodes.ok, c.requires.cells.count, c.requires.room, c.requires.index, index_below c.args.placement.now.rect.size at.x at.y at.f c.requires.counts)

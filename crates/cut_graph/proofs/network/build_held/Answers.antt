@@ -54,3 +54,9 @@ lay-requires-clause-seams c = grind (arith, common_steps)
 
 pub lay-requires-clause-fits : goal.lay-requires-clause-fits
 lay-requires-clause-fits c = c.requires.fits
+
+pub number_cells-requires-clause-marks : goal.number_cells-requires-clause-marks
+number_cells-requires-clause-marks c = grind (arith, common_steps)
+
+pub lay-requires-clause-cells_count : goal.lay-requires-clause-cells_count
+lay-requires-clause-cells_count c = grind (arith, common_steps)

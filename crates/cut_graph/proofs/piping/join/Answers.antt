@@ -1,3 +1,4 @@
+use Rattle.std.proofs.lemmas.Grind.{common_steps}
 use Rattle.std.proofs.Common.{ap, ◌∙◌, arith}
 use Rattle.cells.specs.Distances.{distance}
 use Rattle.costs.specs.Costs.{seam}
@@ -57,3 +58,12 @@ seam_of-cost-requires-clause-a c = rw c.in-Some-None.is-0 at c.requires.first_so
 
 pub seam_of-cost-requires-in-None-Some-clause-b : goal.seam_of-cost-requires-in-None-Some-clause-b
 seam_of-cost-requires-in-None-Some-clause-b c = rw c.in-None-Some.is-1 at c.requires.second_sources.source
+
+pub returns-in-Some-Some-clause-network : goal.returns-in-Some-Some-clause-network
+returns-in-Some-Some-clause-network c = grind (arith, common_steps)
+
+pub add_pipe-requires-in-Some-Some-clause-pipe : goal.add_pipe-requires-in-Some-Some-clause-pipe
+add_pipe-requires-in-Some-Some-clause-pipe c = grind (arith, common_steps)
+
+pub returns-in-Some-Some-clause-count : goal.returns-in-Some-Some-clause-count
+returns-in-Some-Some-clause-count c = grind (arith, common_steps)

@@ -35,13 +35,6 @@ pub(crate) fn fits(canvas: &Canvas, sample: &Volume, placement: &Placement) -> b
     canvas.picture().holds(&placement.rect) && sample.holds(&sources)
 }
 
-// The marks of the held cells; none where they are missing.
-fn marks(held: Option<&[bool]>) -> &[bool]
-    ensures { result.now ≡ held_marks (option_copied held.entry) }
-{
-    held.unwrap_or(&[])
-}
-
 // The rules of flows, 4 to 6.
 fn check_flows(
     canvas: &Canvas,
@@ -135,7 +128,7 @@ pub fn check_held(
             place: 0,
         });
     }
-    check_fitting(canvas, sample, cut, marks(held))
+    check_fitting(canvas, sample, cut, held.unwrap_or(&[]))
 }
 
 /// The same with no cell held: no admissible choice leaves a smaller total.

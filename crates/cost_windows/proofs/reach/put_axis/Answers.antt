@@ -111,3 +111,6 @@ returns-then-not-has_cells-clause-put c = rw c.if-keep.true (λ row k below lt.
       axis_none (distance c.args.sample.now) (map_at c.args.map.now) c.args.axis c.args.window (block.x.from + k) (block.y.from + row % block.y.len) (block.f.from + row / block.y.len)
           (λ some. false≢true (sym c.if-not-has_cells.true ∙ c.has_cells.ensures.1 (subst HasCells (sym c.less_one-less.ensures.less) some))),
     ))
+
+pub returns-then-not-has_cells-clause-small : goal.returns-then-not-has_cells-clause-small
+returns-then-not-has_cells-clause-small c = rw c.if-keep.true (λ row k below lt. omega arith)

@@ -135,25 +135,17 @@ fn sum_holds(strip: &Strip, sums: &[u32], row: usize, col: usize) -> bool
     u64::from(sum) <= u64::from(error) + u64::from(least)
 }
 
-/// Whether the cost of a boundary is the least sum of the last row.
+/// Whether the cost of a boundary, the sum of the errors along it, is the least sum of the last row.
 fn has_least_cost(strip: &Strip, path: &[u16], sums: &[u32]) -> bool
     requires path { IsBoundary strip.now path.now }
     requires sums { length sums.now ≡ strip.now.rows * strip.now.cols }
     ensures { IsTrue result ↔ IsLeastOfLastRow strip.now sums.now
         (boundary_cost strip.now path.now) }
 {
-    let last = strip.row_of(sums, strip.rows() - 1);
-    cost(strip, path) == last[first_least(last, 0, strip.cols())]
-}
-
-/// The sum of the errors along a boundary.
-fn cost(strip: &Strip, path: &[u16]) -> u32
-    requires { IsBoundary strip.now path.now }
-    ensures { result ≡ boundary_cost strip.now path.now }
-{
     let mut cost = 0;
     for row in 0..strip.rows() {
         cost += strip.error(row, usize::from(path[row]));
     }
-    cost
+    let last = strip.row_of(sums, strip.rows() - 1);
+    cost == last[first_least(last, 0, strip.cols())]
 }

@@ -10,19 +10,23 @@ use Rattle.strip_boundary.proofs.check.has_least_cost.Goals as goal
 pub returns : goal.returns
 returns c =
     let strip = c.args.strip.now in
+    let cost : c.loop-row.cost ≡ boundary_cost strip c.args.path.now = grind (arith, common_steps) in
     let row = c.row_of-last.result.now in
     let is_last : c.rows.result - 1 + 1 ≡ strip.rows = omega (arith, c.rows.ensures.rows, c.rows.ensures.strip.some_rows) in
     let first : IsFirstLeastWithin (slice_index row) 0 strip.cols c.first_least.result = rw (← c.cols.ensures.cols) c.first_least.ensures in
-    let least = λ (e : c.cost.result ≡ slice_index row c.first_least.result).
+    let least = λ (e : c.loop-row.cost ≡ slice_index row c.first_least.result).
     least_of_row strip c.args.sums.now row (c.rows.result - 1) c.first_least.result (boundary_cost strip c.args.path.now) is_last
-    c.row_of-last.ensures.cells first (sym c.cost.ensures ∙ e) in
+    c.row_of-last.ensures.cells first (sym cost ∙ e) in
     let one = λ (h : IsLeastOfLastRow strip c.args.sums.now (boundary_cost strip c.args.path.now)).
-    c.cost.ensures ∙ least_is_one strip c.args.sums.now row (c.rows.result - 1) c.first_least.result (boundary_cost strip c.args.path.now) is_last
+    cost ∙ least_is_one strip c.args.sums.now row (c.rows.result - 1) c.first_least.result (boundary_cost strip c.args.path.now) is_last
     c.row_of-last.ensures.cells first h in
-    Decides-like _ least one (Decides-eqb c.cost.result (slice_index row c.first_least.result))
+    Decides-like _ least one (Decides-eqb c.loop-row.cost (slice_index row c.first_least.result))
 
-pub cost-requires : goal.cost-requires
-cost-requires c = grind (arith, common_steps)
+pub loop-row-preserved : goal.loop-row-preserved
+loop-row-preserved c = grind (arith, common_steps)
+
+pub error-cost-requires-clause-col : goal.error-cost-requires-clause-col
+error-cost-requires-clause-col c = grind (arith, common_steps)
 
 pub row_of-last-requires : goal.row_of-last-requires
 row_of-last-requires c = grind (arith, common_steps)

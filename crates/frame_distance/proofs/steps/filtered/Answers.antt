@@ -46,3 +46,9 @@ step_cost-cost-requires-clause-from c = grind (arith, common_steps)
 
 pub returns-clause-steps : goal.returns-clause-steps
 returns-clause-steps c = grind (arith, common_steps)
+
+pub loop-k-init : goal.loop-k-init
+loop-k-init c = grind (arith, common_steps)
+
+pub overflow_mul-k-end : goal.overflow_mul-k-end
+overflow_mul-k-end c = grind (arith, common_steps)

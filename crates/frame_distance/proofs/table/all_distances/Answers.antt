@@ -41,3 +41,6 @@ next_distance-number-requires-clause-small c = grind (arith, common_steps)
 
 pub returns-clause-small : goal.returns-clause-small
 returns-clause-small c = grind (arith, common_steps)
+
+pub next_distance-number-requires-clause-frames : goal.next_distance-number-requires-clause-frames
+next_distance-number-requires-clause-frames c = grind (arith, common_steps)

@@ -47,3 +47,9 @@ all_distances-requires-clause-len c = grind (arith, common_steps)
 
 pub overflow_mul-len-2 : goal.overflow_mul-len-2
 overflow_mul-len-2 c = grind (arith, common_steps)
+
+pub all_distances-requires-clause-few : goal.all_distances-requires-clause-few
+all_distances-requires-clause-few c = grind (arith, common_steps)
+
+pub overflow_mul-len : goal.overflow_mul-len
+overflow_mul-len c = grind (arith, common_steps)

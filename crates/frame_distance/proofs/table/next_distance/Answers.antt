@@ -55,3 +55,12 @@ frame-requires-else-j-i-2 c =
     let row = row_below c.args.n k c.requires.more in
     let column : k % c.args.n < c.args.n = omega arith in
     omega (arith, c.requires.frames, frame_inside c.args.len (k % c.args.n) c.args.n column)
+
+pub nonzero_rem-j : goal.nonzero_rem-j
+nonzero_rem-j c = grind (arith, common_steps)
+
+pub nonzero_div-i : goal.nonzero_div-i
+nonzero_div-i c = grind (arith, common_steps)
+
+pub returns-else-j-i-2-clause-distance : goal.returns-else-j-i-2-clause-distance
+returns-else-j-i-2-clause-distance c = grind (arith, common_steps)

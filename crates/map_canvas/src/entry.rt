@@ -1,8 +1,10 @@
 // What a map has for one cell, in 8 bytes.
-ghost use Rattle.std.specs.Prelude.{◌≡◌, IfSome};
+ghost use Rattle.std.specs.Prelude.{◌≡◌, ◌↔◌, IfSome, IsSome, IsTrue, option_map};
+ghost use Rattle.cells.specs.Neighbours.{unit_step};
+ghost use Rattle.cells.specs.Places.{plus};
 ghost use Rattle.map_canvas.specs.Maps.{IsSource};
 
-use cells::At;
+use cells::{At, Axis};
 use std::marker::Model;
 
 // A coordinate of an entry is below this, so that it takes 20 bits.
@@ -55,5 +57,20 @@ impl Entry {
             y: (self.code / SPAN % SPAN) as i32,
             f: (self.code / SPAN / SPAN % SPAN) as i32,
         })
+    }
+
+    /// Whether another cell's source is the next one along an axis after that of this one. It compares
+    /// two numbers, and reads no source.
+    pub fn is_followed(self, next: Entry, axis: Axis) -> bool
+        requires { IfSome self IsSource }
+        ensures { IsTrue result ↔
+            (IsSome self × (next ≡ option_map (λ p. plus p (unit_step axis)) self)) }
+    {
+        let step = match axis {
+            Axis::X => 1,
+            Axis::Y => SPAN,
+            Axis::F => SPAN * SPAN,
+        };
+        next.code == self.code + step
     }
 }

@@ -1,11 +1,11 @@
 // The sums of all windows of a block of corners, from the costs of the pairs of all their cells.
-ghost use Rattle.std.specs.Prelude.{◌≡◌, ◌≤◌, ◌<◌, ℕ, ◌+◌, ◌*◌, ◌/◌, ◌%◌, ◌^◌, length, slice_index};
+ghost use Rattle.std.specs.Prelude.{◌≡◌, ◌≤◌, ◌<◌, ℕ, ◌+◌, ◌*◌, ◌/◌, ◌%◌, ◌^◌, length, slice_index, slice_index_or, nat_lt, All, IfSome, None};
 ghost use Rattle.cells.specs.Boxes.{HasCells};
 ghost use Rattle.cells.specs.Distances.{distance};
 ghost use Rattle.cells.specs.Places.{IsSmall, cell_count, raster_index, spot};
-ghost use Rattle.boxes.specs.Pairs.{AreCounts};
-ghost use Rattle.map_canvas.specs.Maps.{map_at};
-ghost use Rattle.costs.specs.Costs.{most_of_pair, pair_at};
+ghost use Rattle.boxes.specs.Pairs.{AreCounts, has_next};
+ghost use Rattle.map_canvas.specs.Maps.{IsSource, map_at};
+ghost use Rattle.costs.specs.Costs.{most_of_pair, seam_of};
 ghost use Rattle.cost_windows.specs.Windows.{window_at};
 ghost use Rattle.cost_windows.specs.Slides.{AreAtMost, AreCosts, AreRowCosts, EachOfRows, HoldsBlock, IsInBlock, SameElsewhere, added, at_row, axis_sum, block_size, less_one, IsLens, most_after_three, number_if, reach_of, row_offset, row_start};
 ghost use Rattle.cost_windows.specs.Tables.{IsWindow, corners};
@@ -15,23 +15,37 @@ use crate::slide::sum_boxes;
 use boxes::{Counts, has_cells, stride};
 use cells::{Axis, Size, Volume};
 use costs::seam_of;
-use map_canvas::Map;
+use map_canvas::{Entry, Map};
 
-// The cost of the cell at an index and the next one along an axis.
-fn pair_at(map: &Map, sample: &Volume, at: Counts, i: usize, axis: Axis) -> u32
-    requires counts { AreCounts map.now.size at.x at.y at.f }
-    requires index { i ≡ raster_index map.now.size at.x at.y at.f }
-    ensures cost { result ≡ pair_at (distance sample.now) (map_at map.now) axis
-        (spot at.x at.y at.f) }
-    ensures small { result ≤ most_of_pair }
+// How many cells of a row, from a cell on and of so many, have a next one along an axis. They come first.
+fn pairs_of_row(size: Size, first: Counts, len: usize, axis: Axis) -> usize
+    requires { AreCounts size first.x first.y first.f }
+    ensures { (k : ℕ) → k < len →
+        has_next size axis (first.x + k) first.y first.f ≡ nat_lt k result }
 {
-    let size = map.size();
-    if !at.has_next(size, axis) {
+    if !first.has_next(size, axis) {
         return 0;
     }
-    let sources = map.sources();
-    let next = i + stride(size, axis);
-    seam_of(sample, axis, sources[i].source(), sources[next].source())
+    match axis {
+        Axis::X => len.min((size.w - first.x - 1) as usize),
+        Axis::Y | Axis::F => len,
+    }
+}
+
+// The cost of the cell at an index and the next one along an axis, so many after it. Most neighbours have
+// been copied together: they cost nothing, and their sources aren't read.
+fn cost_at(sample: &Volume, axis: Axis, entries: &[Entry], i: usize, step: usize) -> u32
+    requires inside { i + step < length entries.now }
+    requires sources { All (λ source. IfSome source IsSource) entries.now }
+    ensures cost { result ≡ seam_of (distance sample.now) axis
+        (slice_index_or entries.now i None) (slice_index_or entries.now (i + step) None) }
+    ensures small { result ≤ most_of_pair }
+{
+    let (first, next) = (entries[i], entries[i + step]);
+    if first.is_followed(next, axis) {
+        return 0;
+    }
+    seam_of(sample, axis, first.source(), next.source())
 }
 
 // The costs of the cells of a row and the next ones along an axis, from a cell on.
@@ -42,13 +56,17 @@ fn fill_row(costs: &mut [u64], map: &Map, sample: &Volume, first: Counts, axis: 
         first.x first.y first.f costs.new }
     ensures small { AreAtMost most_of_pair costs.new }
 {
-    let start = first.index(map.size());
+    let size = map.size();
+    let sources = map.sources();
+    let start = first.index(size);
+    let step = stride(size, axis);
+    let pairs = pairs_of_row(size, first, costs.len(), axis);
     for k in 0..costs.len() {
-        let at = Counts {
-            x: first.x + k as u32,
-            ..first
+        costs[k] = if k < pairs {
+            u64::from(cost_at(sample, axis, sources, start + k, step))
+        } else {
+            0
         };
-        costs[k] = u64::from(pair_at(map, sample, at, start + k, axis));
     }
 }
 

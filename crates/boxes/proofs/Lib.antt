@@ -7,3 +7,4 @@ pub mod Indices
 pub mod PairNumbers
 pub mod ClosedForm
 pub mod SpanLaws
+pub mod FirstBoxes

@@ -4,3 +4,4 @@ pub mod Pairs
 pub mod Walks
 pub mod Spans
 pub mod Rooms
+pub mod FirstBoxes

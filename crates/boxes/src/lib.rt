@@ -17,7 +17,8 @@
 //! `grid_on` gives the copy in a grid that has a coordinate, `laid_on` the whole part laid so that one of its
 //! coordinates comes to another, and `patch_corner` and `patch_len` a patch. Each answer is exactly the one of
 //! specs/Spans.antt; of `grid_on` the contract says further that the span lies in the output and in the part, and
-//! has the coordinate. specs/Rooms.antt says when a box of one size has a place in another. The search (crate
+//! has the coordinate. specs/Rooms.antt says when a box of one size has a place in another, and specs/FirstBoxes.antt
+//! which boxes come first, where each is laid for the first cell outside those before it. The search (crate
 //! patch_picks) and the check of quilts (crate block_strips) both lay boxes by these words, so that neither has to
 //! depend on the other.
 #![tactic(auto)]

@@ -11,16 +11,16 @@ use Rattle.cells.specs.Firsts.{IsFirstWithout}
 use Rattle.cells.specs.Places.{HasAxes, cell_count, index_in, place_of, spot}
 use Rattle.cells.proofs.Raster.{index_below, index_of_spot, one_place, place_at}
 use Rattle.boxes.specs.declared.spans.Span.{Span}
+use Rattle.boxes.specs.FirstBoxes.{AreFirstBoxes, BoxesPassAt, BoxesStayWithin, IsBoxAfter, cells_of_boxes}
 use Rattle.boxes.specs.Spans.{SpanFits, patch_corner}
+use Rattle.boxes.proofs.FirstBoxes.{whole_within}
 use Rattle.boxes.proofs.SpanLaws.{difference, grid_fits}
 use Rattle.limits.specs.declared.bounds.TheConstants.{MOST_BOX_CELLS}
 use Rattle.least_choice.proofs.Digits.{lex, lex_less}
 use Rattle.grown.specs.declared.limit.Boxes.{Boxes}
 use Rattle.grown.specs.declared.limit.Kind.{Kind}
 use Rattle.grown.specs.declared.limit.Kind.TheVariants.{Copies, Patches}
-use Rattle.grown.specs.BoxLimit.{AreFirstBoxes, BoxesPassAt, IsBoxAfter, cells_of_boxes}
 use Rattle.grown.specs.Counted.{AreBoxes, HasLen, HasLens, box_at, span_on}
-use Rattle.grown.proofs.FirstBoxes.{whole_within}
 use Rattle.grown.proofs.Spots.{IsSpot, in_box, of_box, spot_at}
 
 -- a patch lies in the output, and has its cell
@@ -120,7 +120,7 @@ module _ (boxes : Boxes) (output : Size) (axes : HasAxes output) (lens : HasLens
 
     module _ (box : At → Option Box3) (cells : ℕ) (counted : AreCounted boxes output box left top front cells) where
       -- where all frames are passed, no box is left
-      pub all_counted : output.f ≤ front → cells ≤ MOST_BOX_CELLS → (number : ℕ) → BoxesPassAt box output number → ⊥
+      pub all_counted : output.f ≤ front → cells ≤ MOST_BOX_CELLS → BoxesStayWithin box output
       all_counted le within =
           whole_within box output counted.rects counted.are
           (λ rect after.

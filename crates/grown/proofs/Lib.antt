@@ -5,7 +5,6 @@ pub mod Splitting
 pub mod OneRuns
 pub mod Raising
 mod Spots
-mod FirstBoxes
 mod Counting
 mod SomePick
 pub mod Reaching

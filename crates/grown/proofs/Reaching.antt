@@ -21,6 +21,7 @@ use Rattle.map_canvas.proofs.Afters.{map_after_is}
 use Rattle.map_canvas.proofs.EmptyAndFull.{map_at-empty}
 use Rattle.map_canvas.proofs.Fronts.{front_here, front_reaches}
 use Rattle.map_canvas.proofs.MapsAfter.{after_is_map}
+use Rattle.boxes.specs.FirstBoxes.{AreFirstBoxes, IsBoxAfter, cells_of_boxes}
 use Rattle.costs.specs.Lawful.{IsLawful}
 use Rattle.patch_picks.specs.Fitting.{HasPatch}
 use Rattle.cut_check.specs.declared.record.CutRecord.{CutRecord}
@@ -28,7 +29,7 @@ use Rattle.cut_check.specs.Records.{box_cells}
 use Rattle.cut_replay.proofs.RunLaws.{cells_more}
 use Rattle.limits.specs.declared.bounds.TheConstants.{MOST_BOX_CELLS}
 use Rattle.grown.specs.declared.plan.GrowPlan.{GrowPlan}
-use Rattle.grown.specs.BoxLimit.{AreFirstBoxes, IsBoxAfter, RunPassesThere, box_for, cells_of_boxes, plan_box}
+use Rattle.grown.specs.BoxLimit.{RunPassesThere, box_for, plan_box}
 use Rattle.grown.specs.Grown.{Growth, GrowsBy, IsRun, draws_left, first_growth, rounds_made}
 use Rattle.least_choice.proofs.LeastCuts.{least_cut, least_cut_count, least_cut_is}
 use Rattle.grown.proofs.SomePick.{NextInBox, next_in_box}

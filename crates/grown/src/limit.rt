@@ -3,10 +3,11 @@ ghost use Rattle.std.specs.Prelude.{◌≡◌, ◌≤◌, ◌<◌, ◌*◌, Opti
 ghost use Rattle.cells.specs.declared.place.At.{At};
 ghost use Rattle.cells.specs.declared.place.Box3.{Box3};
 ghost use Rattle.cells.specs.Places.{HasAxes, IsSmall, cell_count};
+ghost use Rattle.boxes.specs.FirstBoxes.{IsFirstPast};
 ghost use Rattle.boxes.specs.Spans.{SpanFits};
 ghost use Rattle.patch_picks.specs.Fitting.{HasPatch};
 ghost use Rattle.patch_picks.specs.Lists.{placed};
-ghost use Rattle.grown.specs.BoxLimit.{IsFirstPast, PlanIsFirstPast};
+ghost use Rattle.grown.specs.BoxLimit.{PlanIsFirstPast};
 ghost use Rattle.grown.specs.Counted.{AreBoxes, AreBoxesOf, HasLen, HasLens, span_on};
 
 use crate::plan::GrowPlan;

@@ -7,9 +7,9 @@ use Rattle.cells.specs.declared.place.At.{At}
 use Rattle.cells.specs.declared.place.Box3.{Box3}
 use Rattle.cells.specs.declared.place.Size.{Size}
 use Rattle.cells.specs.Boxes.{IsInBox}
+use Rattle.cells.specs.Firsts.{IsFirstWithout}
 use Rattle.cells.specs.Places.{cell_count, index_in, place_of, spot}
 use Rattle.cells.proofs.Raster.{in_rows, index_of_spot, one_place, place_at}
-use Rattle.block_strips.specs.Laid.{IsFirstPlaceWithout}
 use Rattle.block_strips.proofs.Along.{Reaches, reach_more, reach_none}
 use Rattle.block_strips.proofs.Boxes.{IsSpot, grid_box, in_box, of_box, spot_of_index}
 
@@ -54,21 +54,21 @@ front_none size g Holds some none = record {
 }
 
 -- the first place that isn't held
-pub record IsNext (size : Size) (g : Grid) (Holds : At → Type 0) (front : Front size g Holds) (q : At) : Type 0 where
-  pub place : q ≡ spot front.left front.top 0
+pub record IsNext (size : Size) (g : Grid) (Holds : At → Type 0) (front : Front size g Holds) (i : ℕ) : Type 0 where
+  pub place : place_of size i ≡ spot front.left front.top 0
   pub room : front.top < size.h
 
-pub first_is_next : (size : Size) (g : Grid) (Holds : At → Type 0) (front : Front size g Holds) (q : At) → IsGrid g → size.f ≡ 1 → 1 ≤ size.w → 1 ≤ size.h → IsFirstPlaceWithout size Holds q → IsNext size g Holds front q
-first_is_next size g Holds front q grid one w h first = record {
-  place = first.place ∙ at.place ∙ (λ k. spot (column k) (row k) 0);
+pub first_is_next : (size : Size) (g : Grid) (Holds : At → Type 0) (front : Front size g Holds) (i : ℕ) → IsGrid g → size.f ≡ 1 → 1 ≤ size.w → 1 ≤ size.h → IsFirstWithout (cell_count size) (λ k. Holds (place_of size k)) i → IsNext size g Holds front i
+first_is_next size g Holds front i grid one w h first = record {
+  place = at.place ∙ (λ k. spot (column k) (row k) 0);
   room = room;
 }
   where
-    at : IsSpot size (place_of size first.index) first.index
-    at = spot_of_index size (place_of size first.index) first.index one (place_at size first.index w h first.below)
+    at : IsSpot size (place_of size i) i
+    at = spot_of_index size (place_of size i) i one (place_at size i w h first.below)
 
     outside : Holds (spot at.x at.y 0) → ⊥
-    outside = λ holds. first.here (subst Holds (sym (first.place ∙ at.place)) holds)
+    outside = λ holds. first.here (subst Holds (sym at.place) holds)
 
     below : front.top ≤ at.y
     below = ⊎_elim (λ lt. absurd (outside (front.held at.x at.y at.column at.row (inl lt)))) (λ le. le) (cases_lt at.y front.top)
@@ -88,10 +88,10 @@ first_is_next size g Holds front q grid one w h first = record {
     inside : front.left + size.w * front.top < cell_count size
     inside = subst (λ f. front.left + size.w * front.top < size.w * (size.h * f)) (sym one) (subst (λ n. front.left + size.w * front.top < size.w * n) (let e : size.h ≡ size.h * 1 = omega arith in e) (in_rows size.w size.h front.top front.left front.room room))
 
-    not_before : front.left + size.w * front.top < first.index → ⊥
+    not_before : front.left + size.w * front.top < i → ⊥
     not_before lt =
         let same : place_of size (front.left + size.w * front.top) ≡ spot front.left front.top 0 = one_place size _ _ _ (place_at size _ w h inside) index in
-        let behind = front.only front.left front.top front.room room (subst Holds same (first.before _ lt)) in
+        let behind = front.only front.left front.top front.room room (subst Holds same (first.before (front.left + size.w * front.top) lt)) in
         ⊎_elim (λ (lt : front.top < front.top). omega arith) (λ (both : (front.top < front.j * g.t + g.D) × (front.left < front.left)). omega (arith, both.1)) behind
 
     at_most : at.x + size.w * at.y ≤ front.left + size.w * front.top

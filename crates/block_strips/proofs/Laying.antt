@@ -2,14 +2,17 @@
 use Rattle.std.proofs.Common.{◌≡◌, ◌⊎◌, ℕ, ◌+◌, ◌-◌, ◌*◌, ◌<◌, ◌≤◌, min, List, [], ◌∷◌, length, Bool, true, false, refl, ap, sym, ◌∙◌, subst, arith, inl, inr, ⊎_elim, ltb-true}
 use Rattle.std.specs.Prelude.{pos, Option, Some, None, IsSome, is_none, nat_lt, cond, option_map, get_or}
 use Rattle.std.specs.List.{position_or_len}
+use Rattle.std.proofs.lemmas.Option.{same_Some}
 use mathlib.Core.Bool.{false≢true}
 use Rattle.cells.specs.declared.place.At.{At}
 use Rattle.cells.specs.declared.place.Box3.{Box3}
 use Rattle.cells.specs.declared.place.Size.{Size}
 use Rattle.cells.specs.Boxes.{HasCells, IsInBox, IsInOne}
 use Rattle.cells.specs.Cells.{Cells}
+use Rattle.cells.specs.Firsts.{IsFirstWithout}
 use Rattle.cells.specs.Places.{HasAxes, IsInside, cell_count, place_of, spot}
 use Rattle.cells.proofs.Raster.{place_at}
+use Rattle.boxes.specs.FirstBoxes.{AreFirstBoxes, IsBoxAfter}
 use Rattle.boxes.specs.Spans.{grid_step}
 use Rattle.map_canvas.specs.Maps.{IsFilled, IsMap, SourceMap, empty_map, first_unfilled}
 use Rattle.map_canvas.proofs.AfterLaws.{filled_of, source_of_place}
@@ -17,7 +20,7 @@ use Rattle.map_canvas.proofs.EmptyAndFull.{map_at-empty}
 use Rattle.map_canvas.proofs.Fronts.{front_passes, front_stops}
 use Rattle.block_strips.specs.declared.plan.QuiltPlan.{QuiltPlan}
 use Rattle.block_strips.specs.Blocks.{FitsBlock, block_at, block_len, block_overlap, next_box, shared_on}
-use Rattle.block_strips.specs.Laid.{AreFirstBlocks, IsFirstPlaceWithout, IsLaidByBlocks, SharesStrips, StaysLaid}
+use Rattle.block_strips.specs.Laid.{IsLaidByBlocks, SharesStrips, StaysLaid, plan_block}
 use Rattle.block_strips.proofs.Along.{Reaches, corner_of, shared_of}
 use Rattle.block_strips.proofs.Boxes.{block_fits, grid_box, spot_inside, spot_of_index}
 use Rattle.block_strips.proofs.Fronts.{Front, Grid, IsGrid, first_is_next, front_box, front_more, front_none}
@@ -56,13 +59,14 @@ module _ (plan : QuiltPlan) (output sample : Size) (are : ArePictures plan outpu
       along down
 
   -- the first blocks of a plan have come to a front
-  pub front_of : (rects : List Box3) → AreFirstBlocks plan output sample rects → Front output (grid_of plan output sample) (IsInOne rects)
+  pub front_of : (rects : List Box3) → AreFirstBoxes (plan_block plan output sample) output rects → Front output (grid_of plan output sample) (IsInOne rects)
   front_of [] blocks = front_none output (grid_of plan output sample) (IsInOne []) are.some_output.w (λ p none. none)
   front_of (rect ∷ rects) blocks =
       let g = grid_of plan output sample in
       let front = front_of rects blocks.1 in
-      let next = first_is_next output g (IsInOne rects) front blocks.0.q is_grid are.one are.some_output.w are.some_output.h blocks.0.first in
-      let same : rect ≡ front_box output g front.k front.j = blocks.0.box_is ∙ ap (block_at plan output sample) next.place ∙ block_is front.k front.j front.left front.top g refl front.along front.down in
+      let next = first_is_next output g (IsInOne rects) front blocks.0.index is_grid are.one are.some_output.w are.some_output.h blocks.0.first in
+      let same : rect ≡ front_box output g front.k front.j =
+      sym (same_Some (block_at plan output sample (place_of output blocks.0.index)) rect blocks.0.is) ∙ ap (block_at plan output sample) next.place ∙ block_is front.k front.j front.left front.top g refl front.along front.down in
       front_more output g (IsInOne rects) (IsInOne (rect ∷ rects)) front is_grid are.some_output.w next.room
       (λ x y lx ly. (
         λ at. subst (λ (r : Box3). IsInBox r (spot x y 0) ⊎ IsInOne rects (spot x y 0)) same at,
@@ -70,30 +74,31 @@ module _ (plan : QuiltPlan) (output sample : Size) (are : ArePictures plan outpu
       ))
 
 -- the first unfilled cell is the first place that isn't filled
-some_is : {A : Type 0} (a b : A) → Some a ≡ Some b → a ≡ b
-some_is a b e = cc
+pub record IsFirstUnfilled (m : SourceMap) (q : At) : Type 0 where
+  pub index : ℕ
+  pub first : IsFirstWithout (cell_count m.size) (λ i. IsFilled m (place_of m.size i)) index
+  pub place : place_of m.size index ≡ q
 
-pub first_is : (m : SourceMap) (q : At) → IsMap m → first_unfilled m ≡ Some q → IsFirstPlaceWithout m.size (IsFilled m) q
+pub first_is : (m : SourceMap) (q : At) → IsMap m → first_unfilled m ≡ Some q → IsFirstUnfilled m q
 first_is m q is e = by (nat_lt n (length m.sources)) refl e
   where
     n : ℕ
     n = position_or_len is_none m.sources
 
-    by : (b : Bool) → nat_lt n (length m.sources) ≡ b → option_map (place_of m.size) (cond b (Some n) None) ≡ Some q → IsFirstPlaceWithout m.size (IsFilled m) q
+    by : (b : Bool) → nat_lt n (length m.sources) ≡ b → option_map (place_of m.size) (cond b (Some n) None) ≡ Some q → IsFirstUnfilled m q
     by false t e = cc
     by true t e =
         let lt : n < length m.sources = ltb-true n (length m.sources) t in
-        let place : place_of m.size n ≡ q = some_is _ _ e in
         record {
           index = n;
-          below = omega (arith, lt, is.count);
-          place = sym place;
-          before = λ earlier less.
-              subst IsSome (sym (source_of_place m is earlier (omega (arith, lt, less))))
-              (filled_of (get_or m.sources earlier None) (front_passes is_none m.sources earlier None less));
-          here = λ filled.
-              let some : IsSome (get_or m.sources n None) = subst IsSome (source_of_place m is n lt) (subst (IsFilled m) (sym place) filled) in
-              unfilled (get_or m.sources n None) (front_stops is_none m.sources None lt) some;
+          first = record {
+            below = omega (arith, lt, is.count);
+            before = λ earlier less.
+                subst IsSome (sym (source_of_place m is earlier (omega (arith, lt, less))))
+                (filled_of (get_or m.sources earlier None) (front_passes is_none m.sources earlier None less));
+            here = λ filled. unfilled (get_or m.sources n None) (front_stops is_none m.sources None lt) (subst IsSome (source_of_place m is n lt) filled);
+          };
+          place = same_Some (place_of m.size n) q e;
         }
       where
         unfilled : (o : Option At) → is_none o ≡ true → IsSome o → ⊥
@@ -102,16 +107,36 @@ first_is m q is e = by (nat_lt n (length m.sources)) refl e
 
 -- which box is next
 pub record IsNextBox (plan : QuiltPlan) (m : SourceMap) (sample : Cells) (rect : Box3) : Type 0 where
-  pub q : At
-  pub first : first_unfilled m ≡ Some q
-  pub box_is : rect ≡ block_at plan m.size sample.size q
+  pub index : ℕ
+  pub first : IsFirstWithout (cell_count m.size) (λ i. IsFilled m (place_of m.size i)) index
+  pub box : block_at plan m.size sample.size (place_of m.size index) ≡ rect
 
-pub next_is : (plan : QuiltPlan) (m : SourceMap) (sample : Cells) (rect : Box3) → next_box plan m sample ≡ Some rect → IsNextBox plan m sample rect
-next_is plan m sample rect e = by (first_unfilled m) refl e
+pub next_is : (plan : QuiltPlan) (m : SourceMap) (sample : Cells) (rect : Box3) → IsMap m → next_box plan m sample ≡ Some rect → IsNextBox plan m sample rect
+next_is plan m sample rect is e = by (first_unfilled m) refl e
   where
     by : (o : Option At) → first_unfilled m ≡ o → option_map (block_at plan m.size sample.size) o ≡ Some rect → IsNextBox plan m sample rect
     by None f e = cc
-    by (Some q) f e = record { q = q; first = f; box_is = sym (some_is _ _ e) }
+    by (Some q) f e =
+        let at = first_is m q is f in
+        record { index = at.index; first = at.first; box = ap (block_at plan m.size sample.size) at.place ∙ same_Some (block_at plan m.size sample.size q) rect e }
+
+pub place_inside : (size : Size) (i : ℕ) → 1 ≤ size.w → 1 ≤ size.h → i < cell_count size → IsInside size (place_of size i)
+place_inside size i w h lt = subst IsSome (sym (place_at size i w h lt)) refl
+
+-- it is the one after those that are laid
+pub next_after : (plan : QuiltPlan) (m : SourceMap) (sample : Cells) → IsMap m → (laid : IsLaidByBlocks plan sample m) (rect : Box3) → next_box plan m sample ≡ Some rect → IsBoxAfter (plan_block plan m.size sample.size) m.size laid.rects rect
+next_after plan m sample is laid rect next =
+    let at = next_is plan m sample rect is next in
+    let place = λ (i : ℕ) (lt : i < cell_count m.size). place_inside m.size i is.small.axes.w.0 is.small.axes.h.0 lt in
+    record {
+      index = at.index;
+      first = record {
+        below = at.first.below;
+        before = λ earlier lt. (laid.filled (place_of m.size earlier) (place earlier (omega (arith, lt, at.first.below)))).0 (at.first.before earlier lt);
+        here = λ has. at.first.here ((laid.filled (place_of m.size at.index) (place at.index at.first.below)).1 has);
+      };
+      is = ap Some at.box;
+    }
 
 module _ (plan : QuiltPlan) (m : SourceMap) (sample : Cells) (rect : Box3) (is : IsMap m) (axes : HasAxes sample.size) (block : 1 ≤ plan.block) (one : m.size.f ≡ 1) (next : next_box plan m sample ≡ Some rect) where
   pub pictures : ArePictures plan m.size sample.size
@@ -124,10 +149,9 @@ module _ (plan : QuiltPlan) (m : SourceMap) (sample : Cells) (rect : Box3) (is :
 
   pub next_fits : FitsBlock m.size sample.size rect
   next_fits =
-      let at = next_is plan m sample rect next in
-      let first = first_is m at.q is at.first in
-      let spot = spot_of_index m.size (place_of m.size first.index) first.index one (place_at m.size first.index is.small.axes.w.0 is.small.axes.h.0 first.below) in
-      subst (FitsBlock m.size sample.size) (sym (at.box_is ∙ ap (block_at plan m.size sample.size) (first.place ∙ spot.place)))
+      let at = next_is plan m sample rect is next in
+      let spot = spot_of_index m.size (place_of m.size at.index) at.index one (place_at m.size at.index is.small.axes.w.0 is.small.axes.h.0 at.first.below) in
+      subst (FitsBlock m.size sample.size) (sym (ap (block_at plan m.size sample.size) spot.place) ∙ at.box)
       (block_fits plan m.size sample.size spot.x spot.y block pictures.some_sample is.small.axes.f.0 spot.column spot.row)
 
   module _ (laid : IsLaidByBlocks plan sample m) where
@@ -179,29 +203,19 @@ module _ (plan : QuiltPlan) (m : SourceMap) (sample : Cells) (rect : Box3) (is :
 
     pub shares_strips : SharesStrips plan sample m rect
     shares_strips =
-        let at = next_is plan m sample rect next in
+        let at = next_is plan m sample rect is next in
         let g = grid_of plan m.size sample.size in
         let front = filled_front in
         let grid = is_grid plan m.size sample.size pictures in
-        let there = first_is_next m.size g (IsFilled m) front at.q grid one pictures.some_output.w pictures.some_output.h (first_is m at.q is at.first) in
-        strips_of rect (at.box_is ∙ ap (block_at plan m.size sample.size) there.place ∙ block_is plan m.size sample.size pictures front.k front.j front.left front.top g refl front.along front.down) there.room
+        let there = first_is_next m.size g (IsFilled m) front at.index grid one pictures.some_output.w pictures.some_output.h at.first in
+        strips_of rect (sym at.box ∙ ap (block_at plan m.size sample.size) there.place ∙ block_is plan m.size sample.size pictures front.k front.j front.left front.top g refl front.along front.down) there.room
 
     pub stays_laid : StaysLaid plan sample m rect
     stays_laid after same filled =
-        let at = next_is plan m sample rect next in
-        let first = first_is m at.q is at.first in
-        let place = λ (i : ℕ) (lt : i < cell_count m.size). subst IsSome (sym (place_at m.size i is.small.axes.w.0 is.small.axes.h.0 lt)) refl in
-        let outside : IsFirstPlaceWithout m.size (IsInOne laid.rects) at.q = record {
-          index = first.index;
-          below = first.below;
-          place = first.place;
-          before = λ earlier lt. (laid.filled (place_of m.size earlier) (place earlier (omega (arith, lt, first.below)))).0 (first.before earlier lt);
-          here = λ has. first.here ((laid.filled at.q (subst (IsInside m.size) (sym first.place) (place first.index first.below))).1 has);
-        } in
-        let blocks : AreFirstBlocks plan m.size sample.size (rect ∷ laid.rects) = (record { q = at.q; first = outside; box_is = at.box_is }, laid.blocks) in
+        let blocks : AreFirstBoxes (plan_block plan m.size sample.size) m.size (rect ∷ laid.rects) = (next_after plan m sample is laid rect next, laid.blocks) in
         record {
           rects = rect ∷ laid.rects;
-          blocks = subst (λ size. AreFirstBlocks plan size sample.size (rect ∷ laid.rects)) (sym same) blocks;
+          blocks = subst (λ size. AreFirstBoxes (plan_block plan size sample.size) size (rect ∷ laid.rects)) (sym same) blocks;
           filled = λ p inside.
               let here = subst (λ size. IsInside size p) same inside in (
                 λ now. ⊎_elim (λ old. inr ((laid.filled p here).0 old)) (λ has. inl has) ((filled p here).0 now),

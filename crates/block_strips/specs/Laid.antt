@@ -1,42 +1,26 @@
 -- A reader has to trust this file. Canvases on which the first blocks of a plan are laid. (Own.)
-use Rattle.std.specs.Prelude.{◌≡◌, ◌<◌, ◌⊎◌, ◌↔◌, ℕ, List, [], ◌∷◌}
+use Rattle.std.specs.Prelude.{◌≡◌, ◌<◌, ◌⊎◌, ◌↔◌, ℕ, List, Option, Some}
 use Rattle.cells.specs.declared.place.At.{At}
 use Rattle.cells.specs.declared.place.Box3.{Box3}
 use Rattle.cells.specs.declared.place.Size.{Size}
 use Rattle.cells.specs.Boxes.{IsInBox, IsInOne, cell_in}
 use Rattle.cells.specs.Cells.{Cells}
-use Rattle.cells.specs.Places.{IsInside, cell_count, place_of}
+use Rattle.cells.specs.Places.{IsInside}
+use Rattle.boxes.specs.FirstBoxes.{AreFirstBoxes}
 use Rattle.map_canvas.specs.Maps.{SourceMap, IsFilled, empty_map}
 use Rattle.block_strips.specs.declared.plan.QuiltPlan.{QuiltPlan}
 use Rattle.block_strips.specs.declared.side.Side.TheVariants.{Left, Top}
 use Rattle.block_strips.specs.Blocks.{block_at, shared_cols}
 
--- the first place in raster order without a property
-pub record IsFirstPlaceWithout (size : Size) (Holds : At → Type 0) (q : At) : Type 0 where
-  pub index : ℕ
-  pub below : index < cell_count size
-  pub place : q ≡ place_of size index
-  pub before : (earlier : ℕ) → earlier < index → Holds (place_of size earlier)
-  pub here : Holds q → ⊥
-
--- the block after these: the one that has the first place outside them
-pub record IsBlockAfter (plan : QuiltPlan) (output sample : Size) (rects : List Box3)
-    (rect : Box3) : Type 0 where
-  pub q : At
-  pub first : IsFirstPlaceWithout output (IsInOne rects) q
-  pub box_is : rect ≡ block_at plan output sample q
-
--- the first blocks of a plan, the last one first
-abbrev pub AreFirstBlocks : QuiltPlan → Size → Size → List Box3 → Type 0
-AreFirstBlocks plan output sample [] = Unit {0}
-AreFirstBlocks plan output sample (rect ∷ rects) =
-    IsBlockAfter plan output sample rects rect × AreFirstBlocks plan output sample rects
+-- the box that a plan lays for a cell: that of the block that has it
+abbrev pub plan_block : QuiltPlan → Size → Size → At → Option Box3
+plan_block plan output sample q = Some (block_at plan output sample q)
 
 -- the filled cells of the map are exactly those of the first blocks of the plan, of which there may
 -- be none
 pub record IsLaidByBlocks (plan : QuiltPlan) (sample : Cells) (m : SourceMap) : Type 0 where
   pub rects : List Box3
-  pub blocks : AreFirstBlocks plan m.size sample.size rects
+  pub blocks : AreFirstBoxes (plan_block plan m.size sample.size) m.size rects
   pub filled : (p : At) → IsInside m.size p → IsFilled m p ↔ IsInOne rects p
 
 -- the filled cells of a block are exactly those of its strips, each of which fits in the block

@@ -7,16 +7,18 @@ use Rattle.std.specs.Prelude.{Some}
 use Rattle.cells.specs.declared.place.Box3.{Box3}
 use Rattle.cells.specs.declared.place.Size.{Size}
 use Rattle.cells.specs.Boxes.{HasCells, IsInOne}
+use Rattle.cells.specs.Firsts.{IsFirstWithout}
 use Rattle.cells.specs.Places.{HasAxes, cell_count, index_in, place_of, spot}
 use Rattle.cells.proofs.Raster.{in_rows, index_of_spot, one_place, place_at}
+use Rattle.boxes.specs.FirstBoxes.{AreFirstBoxes, IsBoxAfter, cells_of_boxes}
 use Rattle.boxes.specs.Spans.{SpanFits}
+use Rattle.boxes.proofs.FirstBoxes.{whole_within}
 use Rattle.boxes.proofs.SpanLaws.{grid_fits}
 use Rattle.block_strips.specs.declared.plan.QuiltPlan.{QuiltPlan}
 use Rattle.block_strips.specs.Blocks.{block_at, block_len, block_on}
-use Rattle.block_strips.specs.Laid.{AreFirstBlocks, IsBlockAfter, IsFirstPlaceWithout}
+use Rattle.block_strips.specs.Laid.{plan_block}
 use Rattle.limits.specs.declared.bounds.TheConstants.{MOST_BOX_CELLS}
-use Rattle.quilted.specs.PlanLimit.{PlanPassesAt, PlanStaysWithin, box_cells}
-use Rattle.quilted.proofs.FirstBlocks.{whole_within}
+use Rattle.quilted.specs.PlanLimit.{PlanPassesAt, PlanStaysWithin}
 use Rattle.quilted.proofs.Spots.{IsSpot, in_box, of_box, spot_of_index}
 
 -- what `first_past` asks for
@@ -37,12 +39,12 @@ end_on T S plan q = (block_on T S plan q).corner + (block_on T S plan q).len
 -- blocks are counted up to a cell
 pub record AreCounted (plan : QuiltPlan) (output sample : Size) (left top cells : ℕ) : Type 0 where
   pub rects : List Box3
-  pub blocks : AreFirstBlocks plan output sample rects
+  pub blocks : AreFirstBoxes (plan_block plan output sample) output rects
   pub room : left < output.w
   pub most : top ≤ output.h
   pub held : (x y : ℕ) → x < output.w → y < output.h → IsPassed left top (end_on output.h sample.h plan top) x y → IsInOne rects (spot x y 0)
   pub only : (x y : ℕ) → x < output.w → y < output.h → IsInOne rects (spot x y 0) → IsPassed left top (end_on output.h sample.h plan top) x y
-  pub cells_are : cells ≡ box_cells rects
+  pub cells_are : cells ≡ cells_of_boxes rects
   pub within : cells ≤ MOST_BOX_CELLS
 
 module _ (plan : QuiltPlan) (output sample : Size) (can : CanBeCounted plan output sample) where
@@ -61,11 +63,10 @@ module _ (plan : QuiltPlan) (output sample : Size) (can : CanBeCounted plan outp
   module _ (left top cells : ℕ) (counted : AreCounted plan output sample left top cells) where
     -- where all rows are passed, no block is left
     pub all_counted : output.h ≤ top → PlanStaysWithin plan output sample
-    all_counted le = whole_within plan output sample counted.rects counted.blocks
+    all_counted le = whole_within (plan_block plan output sample) output counted.rects counted.blocks
         (λ rect after.
-        let first = after.first in
-        let at : IsSpot output (place_of output first.index) first.index = spot_of_index output (place_of output first.index) first.index can.frame (place_at output first.index can.axes.w.0 can.axes.h.0 first.below) in
-        first.here (subst (IsInOne counted.rects) (sym (first.place ∙ at.place)) (counted.held at.x at.y at.column at.row (inl (omega (arith, at.row, le))))))
+        let at : IsSpot output (place_of output after.index) after.index = spot_of_index output (place_of output after.index) after.index can.frame (place_at output after.index can.axes.w.0 can.axes.h.0 after.first.below) in
+        after.first.here (subst (IsInOne counted.rects) (sym at.place) (counted.held at.x at.y at.column at.row (inl (omega (arith, at.row, le))))))
         (subst (λ n. n ≤ MOST_BOX_CELLS) counted.cells_are counted.within)
 
     module _ (lt : top < output.h) where
@@ -103,22 +104,20 @@ module _ (plan : QuiltPlan) (output sample : Size) (can : CanBeCounted plan outp
           inr (omega (arith, row, down.covers), omega (arith, less, same)))
           (cases_lt y top)
 
-      first : IsFirstPlaceWithout output (IsInOne counted.rects) (spot left top 0)
+      first : IsFirstWithout (cell_count output) (λ i. IsInOne counted.rects (place_of output i)) index
       first = record {
-        index = index;
         below = below;
-        place = sym place;
         before = λ earlier less.
             let at : IsSpot output (place_of output earlier) earlier = spot_of_index output (place_of output earlier) earlier can.frame (place_at output earlier can.axes.w.0 can.axes.h.0 (omega (arith, less, below))) in
             subst (IsInOne counted.rects) (sym at.place) (counted.held at.x at.y at.column at.row (earlier_passed at.x at.y at.column (omega (arith, less, at.index))));
-        here = λ has. ⊎_elim (λ (less : top < top). omega (arith, less)) (λ (both : (top < bottom) × (left < left)). omega (arith, both.1)) (counted.only left top counted.room lt has);
+        here = λ has. ⊎_elim (λ (less : top < top). omega (arith, less)) (λ (both : (top < bottom) × (left < left)). omega (arith, both.1)) (counted.only left top counted.room lt (subst (IsInOne counted.rects) place has));
       }
 
       abbrev pub rect : Box3
       rect = block_at plan output sample (spot left top 0)
 
-      after : IsBlockAfter plan output sample counted.rects rect
-      after = record { q = spot left top 0; first = first; box_is = refl }
+      after : IsBoxAfter (plan_block plan output sample) output counted.rects rect
+      after = record { index = index; first = first; is = ap (plan_block plan output sample) place }
 
       -- with its block they pass the bound
       pub counted_past : (number : ℕ) → number ≡ cells + cell_count rect.size → MOST_BOX_CELLS < number → PlanPassesAt plan output sample number
@@ -175,5 +174,5 @@ module _ (plan : QuiltPlan) (output sample : Size) (can : CanBeCounted plan outp
           })))
           (cases_lt (end_on output.w sample.w plan left) output.w)
         where
-          total : number ≡ box_cells (rect ∷ counted.rects)
+          total : number ≡ cells_of_boxes (rect ∷ counted.rects)
           total = omega (arith, is, counted.cells_are)

@@ -4,7 +4,6 @@ pub mod Picking
 pub mod Runs
 pub mod More
 pub mod Costing
-mod FirstBlocks
 pub mod Spots
 mod Counting
 mod RunBlocks

@@ -7,12 +7,14 @@ use Rattle.cells.specs.declared.place.Box3.{Box3}
 use Rattle.cells.specs.declared.place.Size.{Size}
 use Rattle.cells.specs.Cells.{Cells, IsVolume}
 use Rattle.cells.specs.Places.{cell_count}
+use Rattle.boxes.proofs.FirstBoxes.{one_limit, whole_within}
 use Rattle.map_canvas.specs.Maps.{empty_map}
 use Rattle.map_canvas.proofs.EmptyAndFull.{map_at-empty}
 use Rattle.map_canvas.proofs.Marks.{empty_is_canvas}
 use Rattle.block_strips.specs.declared.plan.QuiltPlan.{QuiltPlan}
 use Rattle.block_strips.specs.Blocks.{next_box}
-use Rattle.block_strips.specs.Laid.{IsLaidByBlocks}
+use Rattle.block_strips.specs.Laid.{IsLaidByBlocks, plan_block}
+use Rattle.block_strips.proofs.Laying.{next_after}
 use Rattle.block_check.specs.declared.block.BlockRecord.{BlockRecord}
 use Rattle.block_check.specs.Blocks.{block_cells}
 use Rattle.quilted.specs.Runs.{QuiltsTo, Quilting, Rating, first_quilting}
@@ -21,12 +23,11 @@ use Rattle.quilted.specs.declared.asked.QuiltRun.{QuiltRun}
 use Rattle.quilted.specs.OneLimit.{OneQuiltLimit, QuiltEndsWithin, RunPassesAt, RunsPassThere}
 use Rattle.quilted.specs.PlanLimit.{PlanPassesAt, PlanStaysWithin}
 use Rattle.quilted.specs.Quilted.{CanBeQuilted}
-use Rattle.quilted.proofs.FirstBlocks.{one_limit, whole_within}
 use Rattle.quilted.proofs.OneQuilt.{one_step}
-use Rattle.quilted.proofs.RunBlocks.{LaysFirst, next_after, none_after, run_is_map, run_lays}
+use Rattle.quilted.proofs.RunBlocks.{LaysFirst, none_after, run_is_map, run_lays}
 
 pub limits_are_one : (asked : QuiltRun) (sample : Cells) → OneQuiltLimit asked sample
-limits_are_one asked sample = one_limit asked.plan asked.size sample.size
+limits_are_one asked sample = one_limit (plan_block asked.plan asked.size sample.size) asked.size
 
 -- at first there is no block
 abbrev none_laid : (plan : QuiltPlan) (sample : Cells) (size : Size) → IsLaidByBlocks plan sample (empty_map size)
@@ -48,7 +49,7 @@ module _ (asked : QuiltRun) (sample : Cells) (volume : IsVolume sample) (can : C
   ends_within rating blocks after number run within =
       let lays = laid_by rating blocks after run.run in
       let map = run_is_map rating asked.plan sample volume can.block (first_quilting asked.size asked.seed) after blocks (empty_is_canvas asked.size 1 can.small (omega arith, omega arith)).map run.run in
-      let stays : PlanStaysWithin asked.plan after.map.size sample.size = whole_within asked.plan after.map.size sample.size lays.laid.rects lays.laid.blocks (none_after asked.plan sample after.map map lays.laid run.full) (omega (arith, within, lays.cells_are)) in
+      let stays : PlanStaysWithin asked.plan after.map.size sample.size = whole_within (plan_block asked.plan after.map.size sample.size) after.map.size lays.laid.rects lays.laid.blocks (none_after asked.plan sample after.map map lays.laid run.full) (omega (arith, within, lays.cells_are)) in
       subst (λ (size : Size). PlanStaysWithin asked.plan size sample.size) lays.size stays number
 
   pub passes_there : (rating : Rating) → RunsPassThere rating asked sample
@@ -61,7 +62,7 @@ module _ (asked : QuiltRun) (sample : Cells) (volume : IsVolume sample) (can : C
         before = lays.laid.blocks;
         within = omega (arith, lays.cells_are, passes.within);
         rect = passes.rect;
-        next = next_after asked.plan sample m map lays.laid passes.rect passes.next;
+        next = next_after asked.plan m sample map lays.laid passes.rect passes.next;
         cells = omega (arith, lays.cells_are, passes.cells);
         past = passes.past;
       } in

@@ -8,7 +8,10 @@ use Rattle.cells.specs.declared.place.Box3.{Box3}
 use Rattle.cells.specs.declared.place.Size.{Size}
 use Rattle.cells.specs.Boxes.{IsInBox, IsInOne}
 use Rattle.cells.specs.Cells.{Cells, IsVolume}
+use Rattle.cells.specs.Firsts.{IsFirstWithout}
 use Rattle.cells.specs.Places.{IsInside, cell_count, place_of}
+use Rattle.boxes.specs.FirstBoxes.{AreFirstBoxes, IsBoxAfter, cells_of_boxes}
+use Rattle.boxes.proofs.FirstBoxes.{one_first}
 use Rattle.map_canvas.specs.declared.canvas.Placement.{Placement}
 use Rattle.map_canvas.specs.Choices.{Fits}
 use Rattle.map_canvas.specs.Maps.{IsFilled, IsMap, SourceMap, first_unfilled}
@@ -21,11 +24,10 @@ use Rattle.patch_picks.specs.Steps.{after_draw}
 use Rattle.patch_picks.proofs.AnyPick.{SomePick, some_pick}
 use Rattle.patch_picks.proofs.BoxLists.{all_in_room, some_room}
 use Rattle.patch_picks.proofs.Counting.{All-each, All-slice_get, first_at}
-use Rattle.block_strips.specs.declared.plan.QuiltPlan.{QuiltPlan}
 use Rattle.block_strips.specs.declared.side.Side.TheVariants.{Left, Top}
 use Rattle.block_strips.specs.Blocks.{FitsBlock, block_at, next_box}
-use Rattle.block_strips.specs.Laid.{AreFirstBlocks, IsBlockAfter, IsFirstPlaceWithout, IsLaidByBlocks}
-use Rattle.block_strips.proofs.Laying.{first_is, next_fits}
+use Rattle.block_strips.specs.Laid.{IsLaidByBlocks, plan_block}
+use Rattle.block_strips.proofs.Laying.{first_is, next_fits, place_inside}
 use Rattle.block_check.specs.declared.block.BlockRecord.{BlockRecord}
 use Rattle.block_check.specs.Blocks.{after_block, block_cells, new_cells}
 use Rattle.block_check.specs.Records.{BlockStands}
@@ -33,23 +35,23 @@ use Rattle.block_check.proofs.Filling.{fills_block}
 use Rattle.limits.specs.declared.bounds.TheConstants.{MOST_BOX_CELLS}
 use Rattle.quilted.specs.declared.asked.QuiltRun.{QuiltRun}
 use Rattle.quilted.specs.OneLimit.{RunPassesWhereBlocksDo}
-use Rattle.quilted.specs.PlanLimit.{box_cells}
 use Rattle.quilted.specs.Quilted.{CanBeQuilted}
 use Rattle.quilted.specs.Runs.{QuiltsBy, QuiltsTo, Quilting, Rating, first_quilting, plan_strip, quilting}
 use Rattle.quilted.proofs.Boundaries.{some_join}
-use Rattle.quilted.proofs.FirstBlocks.{one_place}
 use Rattle.quilted.proofs.More.{cells_more, quilts_more}
 use Rattle.quilted.proofs.Picking.{all_have}
-use Rattle.quilted.proofs.RunBlocks.{place_inside}
 use Rattle.quilted.proofs.Runs.{step_leaves}
 
 -- the first place that isn't filled is the first unfilled cell
-first_there : (plan : QuiltPlan) (sample : Size) (m : SourceMap) (q : At) → IsMap m → IsInside m.size q → IsFirstPlaceWithout m.size (IsFilled m) q → first_unfilled m ≡ Some q
-first_there plan sample m q is inside first = by (first_unfilled m) refl
+first_there : (m : SourceMap) (i : ℕ) → IsMap m → IsFirstWithout (cell_count m.size) (λ k. IsFilled m (place_of m.size k)) i → first_unfilled m ≡ Some (place_of m.size i)
+first_there m i is first = by (first_unfilled m) refl
   where
-    by : (o : Option At) → first_unfilled m ≡ o → first_unfilled m ≡ Some q
-    by None none = absurd (first.here (whole_is_full m is none q inside))
-    by (Some p) some = some ∙ ap Some (one_place plan m.size sample (IsFilled m) p q (first_is m p is some) first)
+    by : (o : Option At) → first_unfilled m ≡ o → first_unfilled m ≡ Some (place_of m.size i)
+    by None none = absurd (first.here (whole_is_full m is none (place_of m.size i) (place_inside m.size i is.small.axes.w.0 is.small.axes.h.0 first.below)))
+    by (Some p) some =
+        let at = first_is m p is some in
+        let same : at.index ≡ i = one_first (cell_count m.size) (λ k. IsFilled m (place_of m.size k)) at.index i at.first first in
+        some ∙ ap Some (sym at.place ∙ ap (place_of m.size) same)
 
 -- a run has laid these boxes, and no others
 record Reached (rating : Rating) (asked : QuiltRun) (sample : Cells) (rects : List Box3) : Type 0 where
@@ -58,8 +60,8 @@ record Reached (rating : Rating) (asked : QuiltRun) (sample : Cells) (rects : Li
   run : QuiltsTo rating asked.plan sample (first_quilting asked.size asked.seed) blocks so_far
   is : IsMap so_far.map
   size : so_far.map.size ≡ asked.size
-  cells : block_cells blocks ≡ box_cells rects
-  laid : AreFirstBlocks asked.plan so_far.map.size sample.size rects
+  cells : block_cells blocks ≡ cells_of_boxes rects
+  laid : AreFirstBoxes (plan_block asked.plan so_far.map.size sample.size) so_far.map.size rects
   filled : (p : At) → IsInside so_far.map.size p → IsFilled so_far.map p ↔ IsInOne rects p
 
 module _ (rating : Rating) (asked : QuiltRun) (sample : Cells) (volume : IsVolume sample) (can : CanBeQuilted asked sample) where
@@ -75,12 +77,12 @@ module _ (rating : Rating) (asked : QuiltRun) (sample : Cells) (volume : IsVolum
     filled = λ p inside. (λ filled. absurd (false≢true (subst IsSome (map_at-empty asked.size p) filled)), λ none. absurd none);
   }
 
-  module _ (rects : List Box3) (rect : Box3) (reached : Reached rating asked sample rects) (after : IsBlockAfter asked.plan asked.size sample.size rects rect) where
+  module _ (rects : List Box3) (rect : Box3) (reached : Reached rating asked sample rects) (after : IsBoxAfter (plan_block asked.plan asked.size sample.size) asked.size rects rect) where
     abbrev m : SourceMap
     m = reached.so_far.map
 
-    here : IsBlockAfter asked.plan m.size sample.size rects rect
-    here = subst (λ (size : Size). IsBlockAfter asked.plan size sample.size rects rect) (sym reached.size) after
+    here : IsBoxAfter (plan_block asked.plan m.size sample.size) m.size rects rect
+    here = subst (λ (size : Size). IsBoxAfter (plan_block asked.plan size sample.size) size rects rect) (sym reached.size) after
 
     one : m.size.f ≡ 1
     one = ap (λ (size : Size). size.f) reached.size ∙ can.frame
@@ -88,23 +90,16 @@ module _ (rating : Rating) (asked : QuiltRun) (sample : Cells) (volume : IsVolum
     inside_at : (i : ℕ) → i < cell_count m.size → IsInside m.size (place_of m.size i)
     inside_at i lt = place_inside m.size i reached.is.small.axes.w.0 reached.is.small.axes.h.0 lt
 
-    inside : IsInside m.size here.q
-    inside = subst (IsInside m.size) (sym here.first.place) (inside_at here.first.index here.first.below)
-
-    unfilled : IsFirstPlaceWithout m.size (IsFilled m) here.q
+    unfilled : IsFirstWithout (cell_count m.size) (λ i. IsFilled m (place_of m.size i)) here.index
     unfilled = record {
-      index = here.first.index;
       below = here.first.below;
-      place = here.first.place;
       before = λ earlier lt. (reached.filled (place_of m.size earlier) (inside_at earlier (omega (arith, lt, here.first.below)))).1 (here.first.before earlier lt);
-      here = λ filled. here.first.here ((reached.filled here.q inside).0 filled);
+      here = λ filled. here.first.here ((reached.filled (place_of m.size here.index) (inside_at here.index here.first.below)).0 filled);
     }
 
     -- the next block is that of the plan
     next : next_box asked.plan m sample ≡ Some rect
-    next =
-        ap (option_map (block_at asked.plan m.size sample.size)) (first_there asked.plan sample.size m here.q reached.is inside unfilled)
-        ∙ ap Some (sym here.box_is)
+    next = ap (option_map (block_at asked.plan m.size sample.size)) (first_there m here.index reached.is unfilled) ∙ here.is
 
     fits : FitsBlock m.size sample.size rect
     fits = next_fits asked.plan m sample rect reached.is volume.small.axes can.block one next
@@ -178,7 +173,7 @@ module _ (rating : Rating) (asked : QuiltRun) (sample : Cells) (volume : IsVolum
           );
     }
 
-  reach : (rects : List Box3) → AreFirstBlocks asked.plan asked.size sample.size rects → Reached rating asked sample rects
+  reach : (rects : List Box3) → AreFirstBoxes (plan_block asked.plan asked.size sample.size) asked.size rects → Reached rating asked sample rects
   reach [] are = nothing_laid
   reach (rect ∷ rects) are = one_laid rects rect (reach rects are.1) are.0
 

@@ -4,7 +4,7 @@ ghost use Rattle.cells.specs.Boxes.{HasCells};
 ghost use Rattle.cells.specs.Places.{HasAxes, cell_count};
 ghost use Rattle.boxes.specs.Spans.{SpanFits};
 ghost use Rattle.block_strips.specs.Blocks.{block_len, block_on, box_of};
-ghost use Rattle.quilted.specs.PlanLimit.{IsFirstPast};
+ghost use Rattle.quilted.specs.PlanLimit.{PlanIsFirstPast};
 
 use block_strips::QuiltPlan;
 use boxes::{Span, grid_on};
@@ -67,7 +67,7 @@ pub fn first_past(plan: &QuiltPlan, output: Size, sample: Size) -> Option<u64>
     requires output { HasAxes output }
     requires frame { output.f ≡ 1 }
     requires sample { HasCells sample }
-    ensures { IsFirstPast plan.now output sample result }
+    ensures { PlanIsFirstPast plan.now output sample result }
 {
     let mut at = Cell { x: 0, y: 0 };
     let mut cells = 0;

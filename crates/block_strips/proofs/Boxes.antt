@@ -1,4 +1,4 @@
--- The boxes of blocks: one frame of a picture, by columns and rows.
+-- Cells and boxes of one frame of a picture, by columns and rows: those of blocks.
 use Rattle.std.proofs.Common.{◌≡◌, ℕ, ◌+◌, ◌*◌, ◌<◌, ◌≤◌, refl, ap, sym, ◌∙◌, subst, arith}
 use Rattle.std.proofs.lemmas.Int.{ints}
 use Rattle.std.specs.Prelude.{pos, ◌-ℤ◌, IsSome, Some}

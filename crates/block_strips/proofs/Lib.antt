@@ -1,5 +1,5 @@
 mod Along
-mod Boxes
+pub mod Boxes
 mod Fronts
 pub mod Laying
 mod Errors

@@ -17,9 +17,9 @@ use Rattle.boxes.proofs.SpanLaws.{grid_fits}
 use Rattle.block_strips.specs.declared.plan.QuiltPlan.{QuiltPlan}
 use Rattle.block_strips.specs.Blocks.{block_at, block_len, block_on}
 use Rattle.block_strips.specs.Laid.{plan_block}
+use Rattle.block_strips.proofs.Boxes.{IsSpot, in_box, of_box, spot_of_index}
 use Rattle.limits.specs.declared.bounds.TheConstants.{MOST_BOX_CELLS}
 use Rattle.quilted.specs.PlanLimit.{PlanPassesAt, PlanStaysWithin}
-use Rattle.quilted.proofs.Spots.{IsSpot, in_box, of_box, spot_of_index}
 
 -- what `first_past` asks for
 pub record CanBeCounted (plan : QuiltPlan) (output sample : Size) : Type 0 where

@@ -5,6 +5,8 @@
 #![tactic(auto)]
 
 #[cfg(test)]
+mod cases;
+#[cfg(test)]
 mod cuts;
 #[cfg(test)]
 mod draws;
@@ -27,10 +29,10 @@ mod placements;
 #[cfg(test)]
 mod quilts;
 #[cfg(test)]
-mod rounds;
-#[cfg(test)]
-mod rows;
+mod samples;
 #[cfg(test)]
 mod steps;
+#[cfg(test)]
+mod tables;
 #[cfg(test)]
 mod tilings;

@@ -2,4 +2,4 @@ use Rattle.map_canvas.specs.Canvases.{StandsOver}
 use Rattle.test_places.proofs.tilings.laid_twice.Given as goal
 
 abbrev pub invariant-cells : goal.invariant-cells
-invariant-cells g l = StandsOver l.laid l.sample
+invariant-cells l = StandsOver l.laid l.sample

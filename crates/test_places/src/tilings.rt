@@ -278,20 +278,20 @@ fn lay_cell(laid: &mut Canvas, output: &Canvas, sample: &Volume, i: usize)
     }
 }
 
-// An output laid twice along each axis on which it has half as many cells as asked for.
+// The plain total of an output that is laid twice along each axis on which it has half as many cells as asked for.
 fn laid_twice(
     alloc: Global,
     output: &Canvas,
     sample: &Volume,
     twice: Size,
-) -> Result<Canvas, AllocError>
+) -> Result<u64, AllocError>
     requires { IsSmall twice }
 {
     let mut laid = canvas_over(alloc, twice, sample)?;
     'cells: for i in 0..twice.cells() {
         lay_cell(&mut laid, output, sample, i);
     }
-    Ok(laid)
+    Ok(total(&laid, sample))
 }
 
 // Whether the plain total of what is laid twice is this share of an output's plain total and torus total together, and
@@ -325,6 +325,6 @@ pub(crate) fn is_twice(
     let tiled = tile_canvas(alloc, plan, sample)?;
     let plain = total(&tiled.canvas, sample);
     let torus = torus_total(&tiled.canvas, sample, &tile.wrap);
-    let laid = laid_twice(alloc, &tiled.canvas, sample, twice)?;
-    Ok(is_share(plain, torus, total(&laid, sample), half, cost))
+    let whole = laid_twice(alloc, &tiled.canvas, sample, twice)?;
+    Ok(is_share(plain, torus, whole, half, cost))
 }

@@ -1,21 +1,13 @@
-// What a test asserts of an answer. A test that ends with a value and asserts one by one is several times as
-// long to prove.
-use std::alloc::AllocError;
+// What a test asserts of an answer. Where there is no memory the process ends: a second way out of a function, past the
+// values that it owns, is long to prove.
 use std::process::Abort;
 
-/// Asserts that nothing is wrong: what was found else is its number.
-pub fn expect_none(rt: &impl Abort, found: Result<Option<usize>, AllocError>) {
-    let is_none = matches!(found, Ok(None));
-    assert!(rt; is_none, "{found:?}");
-}
-
 /// Asserts that all is as expected.
-pub fn expect_true(rt: &impl Abort, found: Result<bool, AllocError>) {
-    let is_true = matches!(found, Ok(true));
-    assert!(rt; is_true, "{found:?}");
+pub fn expect_true(rt: &impl Abort, is_so: bool) {
+    assert!(rt; is_so);
 }
 
-/// Asserts that there was memory for all that is asserted on the way.
-pub fn expect_done(rt: &impl Abort, found: Result<(), AllocError>) {
-    assert!(rt; found.is_ok());
+/// Asserts that a row of a table is as expected, by its number from 0.
+pub fn expect_row(rt: &impl Abort, i: usize, is_so: bool) {
+    assert!(rt; is_so, "row {i}");
 }

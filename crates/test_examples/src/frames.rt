@@ -1,46 +1,46 @@
 // Worked examples, and the calls that take memory once each.
-ghost use Rattle.std.specs.Prelude.{◌≡◌, ◌≤◌, IfOk, length, []};
-
-use crate::expect::{expect_none, expect_true};
-use cells::{Size, Taps, Volume};
-use frame_distance::{Table, distances, filtered};
-use std::alloc::{AllocError, Global};
-
-// A clip of one byte a frame.
-fn clip_of(alloc: Global, frames: &[u8]) -> Result<Volume, AllocError>
-    requires some { 1 ≤ length frames.now }
-    requires few { length frames.now ≤ 16 }
-    ensures { IfOk result (λ clip. (clip.size.w ≡ 1) × (clip.size.h ≡ 1)
-        × (clip.size.f ≡ length frames.now) × (clip.more ≡ [])) }
-{
-    let size = Size {
-        w: 1,
-        h: 1,
-        f: frames.len() as u32,
-    };
-    Ok(Volume::from_bytes(size, 1, Vec::from_slice(alloc, frames)?))
-}
+use crate::expect::{expect_row, expect_true};
+use crate::pictures::volume_of;
+use cells::{Size, Taps};
+use frame_distance::{StepCosts, distances, filtered};
+use std::alloc::Global;
+use std::process::Abort;
 
 // Two frames of two cells, of three bytes each.
 const PAIR: &[u8] = &[1, 2, 3, 4, 5, 6, 2, 2, 3, 5, 5, 9];
 
-fn is_of_pair(table: &Table) -> bool {
-    table.frames() == 2
-        && table.at(0, 0) == 0
-        && table.at(0, 1) == 11
-        && table.at(1, 0) == 11
-        && table.at(1, 1) == 0
-}
-
-fn are_distances(alloc: Global) -> Result<bool, AllocError> {
-    let bytes = Vec::from_slice(alloc, PAIR)?;
-    let clip = Volume::from_bytes(Size { w: 2, h: 1, f: 2 }, 3, bytes);
-    Ok(is_of_pair(&distances(alloc, &clip)?))
-}
-
 #[test]
 fn distances_over_all_samples(rt: HostRuntime) {
-    expect_true(&rt, are_distances(rt.alloc()));
+    let clip = volume_of(&rt, rt.alloc(), Size { w: 2, h: 1, f: 2 }, 3, PAIR);
+    let Ok(table) = distances(rt.alloc(), &clip) else {
+        rt.abort()
+    };
+    assert!(rt; table.frames() == 2);
+    let is_even = (table.at(0, 0) == 0) & (table.at(1, 1) == 0);
+    expect_true(
+        &rt,
+        is_even & (table.at(0, 1) == 11) & (table.at(1, 0) == 11),
+    );
+}
+
+/// The step costs of a clip of one byte a frame.
+pub(crate) fn costs_of(
+    rt: &impl Abort,
+    alloc: Global,
+    frames: &[u8],
+    taps: Taps,
+    gap: u32,
+) -> StepCosts {
+    assert!(rt; frames.len() <= 16);
+    let f = frames.len() as u32;
+    let clip = volume_of(rt, alloc, Size { w: 1, h: 1, f }, 1, frames);
+    let Ok(table) = distances(alloc, &clip) else {
+        rt.abort()
+    };
+    let Ok(costs) = filtered(alloc, &table, taps, gap) else {
+        rt.abort()
+    };
+    costs
 }
 
 // Taps, a gap, two frames, and the cost of the step between them where there is one. The frames of one sample are 0, 1, 3, 7
@@ -64,28 +64,17 @@ const STEPS: &[Step] = &[
     (Taps::Four, 2, 2, 2, None),
 ];
 
-fn is_step(alloc: Global, table: &Table, of: &Step) -> Result<bool, AllocError> {
+fn is_step(rt: &impl Abort, alloc: Global, of: &Step) -> bool {
     let (taps, gap, from, to, cost) = *of;
-    let costs = filtered(alloc, table, taps, gap)?;
-    let are_frames = costs.frames() == 5 && from < 5 && to < 5;
-    Ok(are_frames && costs.step(from, to) == cost)
-}
-
-fn wrong_step(alloc: Global, table: &Table) -> Result<Option<usize>, AllocError> {
-    for (i, of) in STEPS.iter().enumerate() {
-        if !is_step(alloc, table, of)? {
-            return Ok(Some(i));
-        }
-    }
-    Ok(None)
-}
-
-fn wrong_step_of_five(alloc: Global) -> Result<Option<usize>, AllocError> {
-    let clip = clip_of(alloc, &[0, 1, 3, 7, 12])?;
-    wrong_step(alloc, &distances(alloc, &clip)?)
+    let costs = costs_of(rt, alloc, &[0, 1, 3, 7, 12], taps, gap);
+    assert!(rt; costs.frames() == 5);
+    assert!(rt; (from < 5) & (to < 5));
+    costs.step(from, to) == cost
 }
 
 #[test]
 fn steps_by_filter_and_gap(rt: HostRuntime) {
-    expect_none(&rt, wrong_step_of_five(rt.alloc()));
+    for (i, of) in STEPS.iter().enumerate() {
+        expect_row(&rt, i, is_step(&rt, rt.alloc(), of));
+    }
 }

@@ -1,8 +1,8 @@
 //! Worked examples, as tests alone: volumes, maps and canvases, seam costs and their sums, and cut records; sums over rows,
 //! boundaries through strips, distances of frames and steps between them, loops, marks and steps of merges, transfers whole
 //! and block by block, turned samples and the files of their maps; and records and files that don't stand. No clause says
-//! what they show: that calls succeed where there is memory, that the definitions give the numbers that were computed by
-//! hand or by another program, and that none of all choices of a merge's step, tried one by one, costs less.
+//! what they show: that calls succeed where there is memory, and that the definitions give the numbers that were computed by
+//! hand or by another program.
 #![tactic(auto)]
 
 #[cfg(test)]

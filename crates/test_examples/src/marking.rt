@@ -1,11 +1,8 @@
 // Which marks are bad.
-ghost use Rattle.std.specs.Prelude.{◌≡◌, IfOk};
-ghost use Rattle.cells.specs.Cells.{IsOnePart};
-
-use crate::expect::expect_none;
-use cells::{Size, Volume};
+use crate::expect::expect_row;
+use crate::pictures::volume_of;
+use cells::Size;
 use photo_merge::first_bad_mark;
-use std::alloc::{AllocError, Global};
 
 // Two rows of two cells, how many pictures there are, and the first bad cell.
 const MARKS: &[([u8; 12], u32, Option<u32>)] = &[
@@ -19,29 +16,12 @@ const MARKS: &[([u8; 12], u32, Option<u32>)] = &[
     ([255, 0, 0, 0, 0, 0, 0, 0, 0, 0, 0, 0], 16, Some(0)),
 ];
 
-fn square(alloc: Global, bytes: &[u8; 12]) -> Result<Volume, AllocError>
-    ensures one { IfOk result IsOnePart }
-    ensures samples { IfOk result (λ volume. volume.k ≡ 3) }
-{
-    let bytes = Vec::from_slice(alloc, bytes)?;
-    Ok(Volume::from_bytes(Size { w: 2, h: 2, f: 1 }, 3, bytes))
-}
-
-fn found(alloc: Global, bytes: &[u8; 12], count: u32) -> Result<Option<u32>, AllocError> {
-    let marks = square(alloc, bytes)?;
-    Ok(first_bad_mark(&marks, count))
-}
-
-fn wrong_marks(alloc: Global) -> Result<Option<usize>, AllocError> {
-    for (i, (bytes, count, bad)) in MARKS.iter().enumerate() {
-        if found(alloc, bytes, *count)? != *bad {
-            return Ok(Some(i));
-        }
-    }
-    Ok(None)
-}
+const SQUARE: Size = Size { w: 2, h: 2, f: 1 };
 
 #[test]
 fn first_bad_marks(rt: HostRuntime) {
-    expect_none(&rt, wrong_marks(rt.alloc()));
+    for (i, (bytes, count, bad)) in MARKS.iter().enumerate() {
+        let marks = volume_of(&rt, rt.alloc(), SQUARE, 3, bytes);
+        expect_row(&rt, i, first_bad_mark(&marks, *count) == *bad);
+    }
 }

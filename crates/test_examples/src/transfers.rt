@@ -1,17 +1,12 @@
 // Whole transfers.
-ghost use Rattle.std.specs.Prelude.{◌≡◌, IfOk};
-ghost use Rattle.cells.specs.Cells.{IsOnePart};
-ghost use Rattle.cells.specs.Places.{IsSmall};
-
-use crate::expect::expect_done;
-use crate::pictures::greys;
+use crate::expect::{expect_row, expect_true};
+use crate::pictures::{at, greys};
 use block_strips::QuiltPlan;
-use cells::{At, Size, Volume};
+use cells::Volume;
 use lane_kernels::ssd;
 use limits::GREATEST_ALPHA;
-use map_canvas::Canvas;
 use quilted::{QuiltRun, Quilted};
-use std::alloc::{AllocError, Global};
+use std::alloc::Global;
 use std::process::Abort;
 use transfer::transfer_canvas;
 
@@ -137,29 +132,31 @@ const CASES: &[Case] = &[
     },
 ];
 
-// A picture of greys, by its columns, rows and cells.
-fn picture(rt: &impl Abort, alloc: Global, of: (u32, u32, &[u8])) -> Result<Volume, AllocError>
-    ensures one { IfOk result IsOnePart }
-    ensures samples { IfOk result (λ picture. picture.k ≡ 3) }
-    ensures small { IfOk result (λ picture. IsSmall picture.size) }
-    ensures frame { IfOk result (λ picture. picture.size.f ≡ 1) }
-{
-    let (w, h, cells) = of;
-    greys(rt, alloc, Size { w, h, f: 1 }, cells)
+// Asserts which places of the sample the cells of a picture of so many columns come from.
+fn expect_sources(rt: &impl Abort, quilted: &Quilted, w: u32, sources: &[(i32, i32)]) {
+    let map = quilted.canvas.map();
+    assert!(rt; (1 <= w) & (w < 100));
+    for (i, (x, y)) in sources.iter().enumerate() {
+        assert!(rt; i < 100);
+        let p = at((i as i32 % w as i32, i as i32 / w as i32, 0));
+        expect_row(rt, i, map.at(p) == Some(at((*x, *y, 0))));
+    }
 }
 
-fn transferred(
-    rt: &impl Abort,
-    alloc: Global,
-    case: &Case,
-    target: &Volume,
-) -> Result<Quilted, AllocError>
-    requires one { IsOnePart target.now }
-    requires samples { target.now.k ≡ 3 }
-    requires small { IsSmall target.now.size }
-    requires frame { target.now.size.f ≡ 1 }
-{
-    let sample = picture(rt, alloc, case.sample)?;
+// Whether what comes out is as a case says, but for its sources.
+fn is_made(rt: &impl Abort, case: &Case, quilted: &Quilted, target: &Volume) -> bool {
+    let (made, wanted) = (quilted.canvas.picture().bytes(), target.bytes());
+    assert!(rt; made.len() == wanted.len());
+    assert!(rt; made.len() < 1000);
+    (quilted.blocks.as_slice().len() == case.blocks)
+        & (quilted.boundaries == case.boundaries)
+        & (quilted.cost == case.cost)
+        & (ssd(made, wanted) == case.matched)
+}
+
+fn expect_case(rt: &impl Abort, alloc: Global, case: &Case) {
+    let target = greys(rt, alloc, case.target);
+    let sample = greys(rt, alloc, case.sample);
     let plan = QuiltPlan {
         block: case.block,
         overlap: case.overlap,
@@ -170,74 +167,16 @@ fn transferred(
         plan,
         seed: case.seed,
     };
-    assert!(rt; case.block >= 1 && case.alpha <= GREATEST_ALPHA);
-    match transfer_canvas(alloc, &asked, case.alpha, target, &sample) {
-        Ok(quilted) => Ok(quilted),
-        Err(_) => Err(AllocError),
-    }
-}
-
-// Asserts which places of the sample the cells of a picture of so many columns come from.
-fn assert_sources(rt: &impl Abort, canvas: &Canvas, w: u32, sources: &[(i32, i32)]) {
-    let map = canvas.map();
-    assert!(rt; w >= 1 && w < 100);
-    'cells: for (i, place) in sources.iter().enumerate() {
-        assert!(rt; i < 100);
-        let at = At {
-            x: i as i32 % w as i32,
-            y: i as i32 / w as i32,
-            f: 0,
-        };
-        assert!(rt;
-            map.at(at).map(|at| (at.x, at.y)) == Some(*place),
-            "cell {i}"
-        );
-    }
-}
-
-// Asserts what comes out of a case.
-fn assert_made(rt: &impl Abort, case: &Case, quilted: &Quilted, target: &Volume)
-    requires { IsOnePart target.now }
-{
-    assert!(rt; quilted.blocks.as_slice().len() == case.blocks);
-    assert!(rt; quilted.boundaries == case.boundaries);
-    assert!(rt; quilted.cost == case.cost);
-    let (made, wanted) = (quilted.canvas.picture().bytes(), target.bytes());
-    assert!(rt; made.len() == wanted.len() && made.len() < 1000);
-    assert!(rt; ssd(made, wanted) == case.matched);
-    assert_sources(rt, &quilted.canvas, target.size().w, case.sources);
-}
-
-// (Each function owns one value: each place where owned values end is long to prove.)
-fn assert_case_of(
-    rt: &impl Abort,
-    alloc: Global,
-    case: &Case,
-    target: &Volume,
-) -> Result<(), AllocError>
-    requires one { IsOnePart target.now }
-    requires samples { target.now.k ≡ 3 }
-    requires small { IsSmall target.now.size }
-    requires frame { target.now.size.f ≡ 1 }
-{
-    let quilted = transferred(rt, alloc, case, target)?;
-    assert_made(rt, case, &quilted, target);
-    Ok(())
-}
-
-fn assert_case(rt: &impl Abort, alloc: Global, case: &Case) -> Result<(), AllocError> {
-    let target = picture(rt, alloc, case.target)?;
-    assert_case_of(rt, alloc, case, &target)
-}
-
-fn assert_cases(rt: &impl Abort, alloc: Global) -> Result<(), AllocError> {
-    'cases: for case in CASES {
-        assert_case(rt, alloc, case)?;
-    }
-    Ok(())
+    assert!(rt; (case.block >= 1) & (case.alpha <= GREATEST_ALPHA));
+    let made = transfer_canvas(alloc, &asked, case.alpha, &target, &sample);
+    let Ok(quilted) = made else { rt.abort() };
+    expect_true(rt, is_made(rt, case, &quilted, &target));
+    expect_sources(rt, &quilted, case.target.0, case.sources);
 }
 
 #[test]
 fn worked_values(rt: HostRuntime) {
-    expect_done(&rt, assert_cases(&rt, rt.alloc()));
+    for case in CASES.iter() {
+        expect_case(&rt, rt.alloc(), case);
+    }
 }

@@ -1,16 +1,14 @@
 // Worked examples of files of maps over turned samples: what was written by hand is read and written again, and what is cut,
 // changed or longer is refused at its place.
-ghost use Rattle.turned_map.specs.TurnedFiles.{IsTurnedFile};
-
-use crate::expect::{expect_none, expect_true};
-use cells::At;
-use map_canvas::Map;
+use crate::expect::{expect_row, expect_true};
+use crate::pictures::{Place, at};
 use shelf_core::FormFault::Form;
 use shelf_core::ReadError::{Bad, Limit};
-use shelf_core::{Call, MemShelf, ReadError, What, WriteFault};
+use shelf_core::{Call, MemShelf, ReadError, What};
 use source_map::read_map;
-use std::alloc::{AllocError, Global};
-use turned_map::{TurnedFile, read_turned_map, write_turned_map};
+use std::alloc::Global;
+use std::process::Abort;
+use turned_map::{read_turned_map, write_turned_map};
 
 // The map of one cell from a sample of one cell: sample 1, turn 0, place (0, 0, 0).
 const ONE: [u8; 46] = [
@@ -37,175 +35,137 @@ const TWO: [u8; 68] = [
 
 const FILES: &[&[u8]] = &[&ONE, &SIX, &TWO];
 
-// A store with one map. A function that owns a store and may end at several places is several times as long to prove as
-// one that lends it.
-fn shelf_with(alloc: Global, bytes: &[u8]) -> Result<MemShelf, AllocError> {
+// Puts a map in a store, reads it and writes what was read: its refusal, or else whether what was written is the same to the
+// byte.
+fn answer_in(alloc: Global, shelf: &mut MemShelf, bytes: &[u8]) -> Result<bool, ReadError> {
+    if shelf.put_file("map", bytes).is_err() {
+        return Ok(false);
+    }
+    let file = match read_turned_map(alloc, shelf, "map") {
+        Ok(file) => file,
+        Err(refusal) => return Err(refusal),
+    };
+    let is_written = write_turned_map(&file.map, &file.samples, shelf, "again").is_ok();
+    Ok(is_written & (shelf.file("again") == Some(bytes)))
+}
+
+// The answer in a store of its own.
+fn answer(alloc: Global, bytes: &[u8]) -> Result<bool, ReadError> {
     let mut shelf = MemShelf::new(alloc);
-    shelf.put_file("map", bytes)?;
-    Ok(shelf)
+    answer_in(alloc, &mut shelf, bytes)
 }
 
-// Writes what was read.
-fn write_again(value: &TurnedFile, shelf: &mut MemShelf) -> Result<(), WriteFault>
-    requires { IsTurnedFile value.now }
-{
-    write_turned_map(&value.map, &value.samples, shelf, "again")
-}
-
-// Reads the map of a store and writes it again; None where it isn't read, and else whether all went well.
-fn writes_again(alloc: Global, shelf: &mut MemShelf) -> Option<bool> {
-    match read_turned_map(alloc, shelf, "map") {
-        Ok(value) => Some(write_again(&value, shelf).is_ok()),
-        Err(_) => None,
+// Asserts that a map is refused where it is cut, and with a byte more at its end, and that it is read whole.
+fn expect_lengths(rt: &impl Abort, alloc: Global, bytes: &[u8]) {
+    let Ok(mut longer) = Vec::from_slice(alloc, bytes) else {
+        rt.abort()
+    };
+    expect_true(rt, longer.push(0).is_ok());
+    for n in 0..longer.len() {
+        expect_row(
+            rt,
+            n,
+            answer(alloc, &longer[..n]) == expected_of(n, bytes.len()),
+        );
     }
+    expect_true(
+        rt,
+        answer(alloc, &longer) == Err(Bad(Form(bytes.len() as u64))),
+    );
 }
 
-// Whether a map is read, and what was read is written again, byte by byte.
-fn is_written_again(alloc: Global, bytes: &[u8]) -> Result<bool, AllocError> {
-    let mut shelf = shelf_with(alloc, bytes)?;
-    Ok(writes_again(alloc, &mut shelf) == Some(true) && shelf.file("again") == Some(bytes))
-}
-
-// The number of the first file, from 0, that isn't written again.
-fn wrong_copy(alloc: Global) -> Result<Option<usize>, AllocError> {
-    for (i, bytes) in FILES.iter().enumerate() {
-        if !is_written_again(alloc, *bytes)? {
-            return Ok(Some(i));
-        }
+// What is answered of the first bytes of a map of so many.
+fn expected_of(n: usize, len: usize) -> Result<bool, ReadError> {
+    if n == len {
+        Ok(true)
+    } else {
+        Err(Bad(Form(n as u64)))
     }
-    Ok(None)
-}
-
-#[test]
-fn maps_are_read_and_written_again(rt: HostRuntime) {
-    expect_none(&rt, wrong_copy(rt.alloc()));
-}
-
-// The place of the turned samples, by its column, row and frame.
-fn place(x: i32, y: i32, f: i32) -> Option<At> {
-    Some(At { x, y, f })
-}
-
-// Whether a map has these sources, in raster order.
-fn has_sources(map: &Map, sources: &[Option<At>]) -> bool {
-    map.sources().len() == sources.len()
-        && map
-            .sources()
-            .iter()
-            .zip(sources)
-            .all(|(entry, source)| entry.source() == *source)
-}
-
-// Whether the map of a store has these sources.
-fn reads_sources(alloc: Global, shelf: &mut MemShelf, sources: &[Option<At>]) -> bool {
-    match read_turned_map(alloc, shelf, "map") {
-        Ok(value) => has_sources(&value.map, sources),
-        Err(_) => false,
-    }
-}
-
-// Whether a file is read as a map with these sources.
-fn is_read_as(alloc: Global, bytes: &[u8], sources: &[Option<At>]) -> Result<bool, AllocError> {
-    let mut shelf = shelf_with(alloc, bytes)?;
-    Ok(reads_sources(alloc, &mut shelf, sources))
-}
-
-fn are_six_sources(alloc: Global) -> Result<bool, AllocError> {
-    let sources = [
-        place(0, 0, 0),
-        place(1, 0, 0),
-        place(1, 0, 8),
-        place(0, 1, 0),
-        place(1, 1, 0),
-        place(1, 1, 8),
-    ];
-    is_read_as(alloc, &SIX, &sources)
-}
-
-// Sample 2 has two frames, and its turns come after the eight of sample 1 with their empty frames.
-fn are_two_sources(alloc: Global) -> Result<bool, AllocError> {
-    is_read_as(alloc, &TWO, &[place(0, 2, 38), place(0, 0, 6)])
-}
-
-#[test]
-fn sources_are_places_of_the_turned_samples(rt: HostRuntime) {
-    expect_true(&rt, are_six_sources(rt.alloc()));
-    expect_true(&rt, are_two_sources(rt.alloc()));
-}
-
-// Whether a write that fails leaves so many bytes of the map of one cell, and is answered so.
-fn fails_over(
-    alloc: Global,
-    shelf: &mut MemShelf,
-    call: Call,
-    kept: usize,
-) -> Result<bool, AllocError> {
-    shelf.fail_at(call, "again", 1, kept)?;
-    let is_answered = writes_again(alloc, shelf) == Some(false) && shelf.write_faults() == 1;
-    let left = shelf.file("again").unwrap_or(b"");
-    Ok(is_answered && Some(left) == ONE.get(..kept))
-}
-
-fn fails_well(alloc: Global, call: Call, kept: usize) -> Result<bool, AllocError> {
-    let mut shelf = shelf_with(alloc, &ONE)?;
-    fails_over(alloc, &mut shelf, call, kept)
-}
-
-#[test]
-fn writes_that_fail(rt: HostRuntime) {
-    expect_true(&rt, fails_well(rt.alloc(), Call::Begin, 0));
-    expect_true(&rt, fails_well(rt.alloc(), Call::Add, 0));
-    expect_true(&rt, fails_well(rt.alloc(), Call::Add, 30));
-}
-
-// Why bytes aren't read as a map over turned samples.
-fn refusal(alloc: Global, bytes: &[u8]) -> Result<Option<ReadError>, AllocError> {
-    let mut shelf = shelf_with(alloc, bytes)?;
-    Ok(read_turned_map(alloc, &mut shelf, "map").err())
-}
-
-// Why a map with a byte more isn't read.
-fn refusal_of_longer(alloc: Global, bytes: &[u8]) -> Result<Option<ReadError>, AllocError> {
-    let mut longer = Vec::from_slice(alloc, bytes)?;
-    longer.push(0)?;
-    refusal(alloc, &longer)
-}
-
-// How many bytes of a map are the first that aren't refused at their end, or with a byte more at its place; None where all are.
-fn wrong_length(alloc: Global, bytes: &[u8]) -> Result<Option<usize>, AllocError> {
-    for n in 0..bytes.len() {
-        if refusal(alloc, &bytes[..n])? != Some(Bad(Form(n as u64))) {
-            return Ok(Some(n));
-        }
-    }
-    if refusal_of_longer(alloc, bytes)? != Some(Bad(Form(bytes.len() as u64))) {
-        return Ok(Some(bytes.len()));
-    }
-    Ok(None)
-}
-
-// The number of bytes of the first file that isn't refused at one of its lengths.
-fn wrong_lengths(alloc: Global) -> Result<Option<usize>, AllocError> {
-    for bytes in FILES.iter() {
-        if wrong_length(alloc, *bytes)?.is_some() {
-            return Ok(Some(bytes.len()));
-        }
-    }
-    Ok(None)
 }
 
 #[test]
 fn cut_and_longer_maps_are_refused(rt: HostRuntime) {
-    expect_none(&rt, wrong_lengths(rt.alloc()));
+    for bytes in FILES.iter() {
+        expect_lengths(&rt, rt.alloc(), *bytes);
+    }
+}
+
+// A file, a cell of its map, and where the cell comes from in the turned samples. Sample 2 of the last has two frames, and
+// its turns come after the eight of sample 1 with their empty frames.
+const SOURCES: &[(&[u8], Place, Option<Place>)] = &[
+    (&SIX, (0, 0, 0), Some((0, 0, 0))),
+    (&SIX, (1, 0, 0), Some((1, 0, 0))),
+    (&SIX, (2, 0, 0), Some((1, 0, 8))),
+    (&SIX, (0, 1, 0), Some((0, 1, 0))),
+    (&SIX, (1, 1, 0), Some((1, 1, 0))),
+    (&SIX, (2, 1, 0), Some((1, 1, 8))),
+    (&SIX, (3, 0, 0), None),
+    (&SIX, (0, 2, 0), None),
+    (&SIX, (0, 0, 1), None),
+    (&TWO, (0, 0, 0), Some((0, 2, 38))),
+    (&TWO, (1, 0, 0), Some((0, 0, 6))),
+    (&TWO, (2, 0, 0), None),
+    (&TWO, (0, 1, 0), None),
+    (&TWO, (0, 0, 1), None),
+];
+
+// Whether a cell of a map comes from there.
+fn is_source(rt: &impl Abort, alloc: Global, bytes: &[u8], p: Place, from: Option<Place>) -> bool {
+    let mut shelf = MemShelf::new(alloc);
+    expect_true(rt, shelf.put_file("map", bytes).is_ok());
+    let Ok(file) = read_turned_map(alloc, &mut shelf, "map") else {
+        rt.abort()
+    };
+    let source = file.map.at(at(p));
+    match from {
+        Some(from) => source == Some(at(from)),
+        None => source.is_none(),
+    }
+}
+
+#[test]
+fn sources_are_places_of_the_turned_samples(rt: HostRuntime) {
+    for (i, (bytes, p, from)) in SOURCES.iter().enumerate() {
+        expect_row(&rt, i, is_source(&rt, rt.alloc(), *bytes, *p, *from));
+    }
+}
+
+// A call that fails, on a file, and how many bytes it keeps of the map of one cell; what is answered, and how many writes have
+// failed.
+type Failing<'a> = (Call, &'a str, usize, Result<bool, ReadError>, u64);
+
+const FAILING: &[Failing<'static>] = &[
+    (Call::Begin, "again", 0, Ok(false), 1),
+    (Call::Add, "again", 0, Ok(false), 1),
+    (Call::Add, "again", 30, Ok(false), 1),
+    (Call::Get, "map", 0, Err(ReadError::ReadFault), 0),
+];
+
+fn fails_well(rt: &impl Abort, alloc: Global, of: &Failing) -> bool {
+    let (call, name, kept, answered, faults) = *of;
+    let mut shelf = MemShelf::new(alloc);
+    expect_true(rt, shelf.fail_at(call, name, 1, kept).is_ok());
+    let found = answer_in(alloc, &mut shelf, &ONE);
+    let left = shelf.file("again").unwrap_or(b"");
+    (found == answered) & (shelf.write_faults() == faults) & (Some(left) == ONE.get(..kept))
+}
+
+#[test]
+fn calls_that_fail(rt: HostRuntime) {
+    for (i, of) in FAILING.iter().enumerate() {
+        expect_row(&rt, i, fails_well(&rt, rt.alloc(), of));
+    }
 }
 
 // The bytes with others from a place on.
-fn changed(alloc: Global, bytes: &[u8], at: usize, new: &[u8]) -> Result<Vec<u8>, AllocError> {
-    let mut result = Vec::from_slice(alloc, bytes)?;
+fn changed(rt: &impl Abort, alloc: Global, bytes: &[u8], at: usize, new: &[u8]) -> Vec<u8> {
+    let Ok(mut result) = Vec::from_slice(alloc, bytes) else {
+        rt.abort()
+    };
     for (old, byte) in result.iter_mut().skip(at).zip(new) {
         *old = *byte;
     }
-    Ok(result)
+    result
 }
 
 // A file, a place in it with the bytes put there, and the refusal.
@@ -263,112 +223,45 @@ const CHANGES: &[Change<'static>] = &[
     (&TWO, 52, &[0, 3], Bad(Form(52))),
 ];
 
-// Why a map with other bytes from a place on isn't read.
-fn refusal_of_changed(
-    alloc: Global,
-    bytes: &[u8],
-    at: usize,
-    new: &[u8],
-) -> Result<Option<ReadError>, AllocError> {
-    let other = changed(alloc, bytes, at, new)?;
-    refusal(alloc, &other)
-}
-
-// The number of the first change, from 0, that isn't refused so.
-fn wrong_change(alloc: Global, table: &[Change]) -> Result<Option<usize>, AllocError> {
-    for (i, (bytes, at, new, refused)) in table.iter().enumerate() {
-        if refusal_of_changed(alloc, *bytes, *at, *new)? != Some(*refused) {
-            return Ok(Some(i));
-        }
-    }
-    Ok(None)
-}
-
 #[test]
 fn changed_maps_are_refused(rt: HostRuntime) {
-    expect_none(&rt, wrong_change(rt.alloc(), CHANGES));
-}
-
-// Whether bytes are refused, or are the spelling of a map.
-fn is_refused_or_spelled(alloc: Global, bytes: &[u8]) -> Result<bool, AllocError> {
-    if refusal(alloc, bytes)?.is_some() {
-        return Ok(true);
+    for (i, (bytes, at, new, refused)) in CHANGES.iter().enumerate() {
+        let other = changed(&rt, rt.alloc(), *bytes, *at, *new);
+        expect_row(&rt, i, answer(rt.alloc(), &other) == Err(*refused));
     }
-    is_written_again(alloc, bytes)
 }
 
-fn is_value_well(alloc: Global, bytes: &[u8], at: usize, value: u8) -> Result<bool, AllocError> {
-    let other = changed(alloc, bytes, at, &[value])?;
-    is_refused_or_spelled(alloc, &other)
-}
-
-// Whether that is so with each other value of a byte.
-fn are_values_well(alloc: Global, bytes: &[u8], at: usize) -> Result<bool, AllocError> {
+// Asserts that with each other value of a byte the map is refused, or is the spelling of what is read.
+fn expect_values(rt: &impl Abort, alloc: Global, bytes: &[u8], at: usize) {
     for value in 0..=255u8 {
-        if !is_value_well(alloc, bytes, at, value)? {
-            return Ok(false);
-        }
+        let other = changed(rt, alloc, bytes, at, &[value]);
+        expect_row(rt, at, answer(alloc, &other) != Ok(false));
     }
-    Ok(true)
 }
 
-// The first place of a file at which another byte is read as what it doesn't spell; None where there is none.
-fn wrong_byte(alloc: Global, bytes: &[u8]) -> Result<Option<usize>, AllocError> {
+fn expect_bytes(rt: &impl Abort, alloc: Global, bytes: &[u8]) {
     for at in 0..bytes.len() {
-        if !are_values_well(alloc, bytes, at)? {
-            return Ok(Some(at));
-        }
+        expect_values(rt, alloc, bytes, at);
     }
-    Ok(None)
-}
-
-// The number of bytes of the first file that has such a place.
-fn wrong_bytes(alloc: Global) -> Result<Option<usize>, AllocError> {
-    for bytes in FILES.iter() {
-        if wrong_byte(alloc, *bytes)?.is_some() {
-            return Ok(Some(bytes.len()));
-        }
-    }
-    Ok(None)
 }
 
 #[test]
 fn other_bytes_are_refused_or_spelled(rt: HostRuntime) {
-    expect_none(&rt, wrong_bytes(rt.alloc()));
+    for bytes in FILES.iter() {
+        expect_bytes(&rt, rt.alloc(), *bytes);
+    }
 }
 
 // Whether the reader of maps refuses the kind of a file.
-fn is_other_kind(alloc: Global, bytes: &[u8]) -> Result<bool, AllocError> {
-    let mut shelf = shelf_with(alloc, bytes)?;
-    Ok(read_map(alloc, &mut shelf, "map").err() == Some(Bad(Form(9))))
-}
-
-// The number of the first file, from 0, that it doesn't refuse so.
-fn wrong_kind(alloc: Global) -> Result<Option<usize>, AllocError> {
-    for (i, bytes) in FILES.iter().enumerate() {
-        if !is_other_kind(alloc, *bytes)? {
-            return Ok(Some(i));
-        }
-    }
-    Ok(None)
+fn is_other_kind(rt: &impl Abort, alloc: Global, bytes: &[u8]) -> bool {
+    let mut shelf = MemShelf::new(alloc);
+    expect_true(rt, shelf.put_file("map", bytes).is_ok());
+    read_map(alloc, &mut shelf, "map").err() == Some(Bad(Form(9)))
 }
 
 #[test]
 fn a_reader_of_maps_refuses_the_kind(rt: HostRuntime) {
-    expect_none(&rt, wrong_kind(rt.alloc()));
-}
-
-fn is_fault_over(alloc: Global, shelf: &mut MemShelf) -> Result<bool, AllocError> {
-    shelf.fail_at(Call::Get, "map", 1, 0)?;
-    Ok(read_turned_map(alloc, shelf, "map").err() == Some(ReadError::ReadFault))
-}
-
-fn is_read_fault(alloc: Global) -> Result<bool, AllocError> {
-    let mut shelf = shelf_with(alloc, &ONE)?;
-    is_fault_over(alloc, &mut shelf)
-}
-
-#[test]
-fn a_read_that_fails_is_a_fault(rt: HostRuntime) {
-    expect_true(&rt, is_read_fault(rt.alloc()));
+    for (i, bytes) in FILES.iter().enumerate() {
+        expect_row(&rt, i, is_other_kind(&rt, rt.alloc(), *bytes));
+    }
 }

@@ -1,9 +1,11 @@
 // Worked examples of turned samples: the bytes of all turns, written by hand, and the cell that comes to a place.
 ghost use Rattle.std.specs.Prelude.{◌≤◌, length};
 
-use crate::expect::{expect_none, expect_true};
-use cells::{At, Size, Sizes, Volume};
-use std::alloc::{AllocError, Global};
+use crate::expect::{expect_row, expect_true};
+use crate::pictures::{Place, at, volume_of};
+use cells::{At, Size, Sizes};
+use std::alloc::Global;
+use std::process::Abort;
 use turned::{Turned, turn_all, turned_place, turned_sizes, untouched};
 
 // The eight turns of a picture of 3x2 with the cells 1 2 3 / 4 5 6, row by row.
@@ -12,68 +14,59 @@ const SIX_TURNED: &[u8] = &[
     5, 2, 4, 1, 4, 5, 6, 1, 2, 3, 1, 4, 2, 5, 3, 6,
 ];
 
-// Whether these are the sizes of the eight turns of a picture of 3x2.
-fn are_of_six(sizes: &Sizes) -> bool {
+// The eight turns of a clip of two frames of 2x1 with cells of 3 samples, of which frame 0 has the cells (1, 2, 3) and
+// (4, 5, 6), frame 1 (7, 8, 9) and (10, 11, 12). Each turn across keeps the two cells of a row or exchanges them.
+const FRAMES_TURNED: &[u8] = &[
+    1, 2, 3, 4, 5, 6, 7, 8, 9, 10, 11, 12, 1, 2, 3, 4, 5, 6, 7, 8, 9, 10, 11, 12, 4, 5, 6, 1, 2, 3,
+    10, 11, 12, 7, 8, 9, 4, 5, 6, 1, 2, 3, 10, 11, 12, 7, 8, 9, 4, 5, 6, 1, 2, 3, 10, 11, 12, 7, 8,
+    9, 4, 5, 6, 1, 2, 3, 10, 11, 12, 7, 8, 9, 1, 2, 3, 4, 5, 6, 7, 8, 9, 10, 11, 12, 1, 2, 3, 4, 5,
+    6, 7, 8, 9, 10, 11, 12,
+];
+
+// A sample by its size, the samples of a cell and its bytes, and the bytes of its turns.
+type Turns<'a> = (Size, u32, &'a [u8], &'a [u8]);
+
+const TURNS: &[Turns<'static>] = &[
+    (
+        Size { w: 3, h: 2, f: 1 },
+        1,
+        &[1, 2, 3, 4, 5, 6],
+        SIX_TURNED,
+    ),
+    (
+        Size { w: 2, h: 1, f: 2 },
+        3,
+        &[1, 2, 3, 4, 5, 6, 7, 8, 9, 10, 11, 12],
+        FRAMES_TURNED,
+    ),
+];
+
+// Whether these are the sizes of the eight turns of one sample.
+fn are_turned(sizes: &Sizes, size: Size) -> bool {
     if sizes.len() != 8 {
         return false;
     }
-    for part in 0..8 {
-        let (w, h) = if part % 2 == 0 { (3, 2) } else { (2, 3) };
-        if sizes.at(part + 1) != (Size { w, h, f: 1 }) {
-            return false;
-        }
+    let across = Size {
+        w: size.h,
+        h: size.w,
+        f: size.f,
+    };
+    let mut are = true;
+    for turn in 0..8 {
+        let expected = if turn % 2 == 0 { size } else { across };
+        are &= sizes.at(turn + 1) == expected;
     }
-    true
+    are
 }
 
-fn is_six_turned(turned: &Volume) -> bool {
-    turned.bytes() == SIX_TURNED && are_of_six(&turned.sizes())
-}
-
-fn are_turns_of_six(alloc: Global) -> Result<bool, AllocError> {
-    let bytes = Vec::from_slice(alloc, &[1, 2, 3, 4, 5, 6])?;
-    let sample = Volume::from_bytes(Size { w: 3, h: 2, f: 1 }, 1, bytes);
-    Ok(is_six_turned(&turn_all(alloc, &sample)?))
-}
-
-#[test]
-fn turns_of_a_picture(rt: HostRuntime) {
-    expect_true(&rt, are_turns_of_six(rt.alloc()));
-}
-
-// The turns of a clip of two frames of 2x1 with cells of 3 samples, of which frame 0 has the cells (1, 2, 3) and (4, 5, 6),
-// frame 1 (7, 8, 9) and (10, 11, 12). A turn across keeps the cells or exchanges them.
-const KEPT: &[u8] = &[1, 2, 3, 4, 5, 6, 7, 8, 9, 10, 11, 12];
-
-const EXCHANGED: &[u8] = &[4, 5, 6, 1, 2, 3, 10, 11, 12, 7, 8, 9];
-
-// Whether each turn exchanges the two cells of a row, from turn 0 on.
-const EXCHANGES: &[bool] = &[false, false, true, true, true, true, false, false];
-
-// The first turn, counted from 0, whose bytes aren't the expected ones.
-fn wrong_turn(bytes: &[u8]) -> Option<usize> {
-    for (turn, exchanges) in EXCHANGES.iter().enumerate() {
-        let expected = if *exchanges { EXCHANGED } else { KEPT };
-        if bytes.chunks(12).nth(turn) != Some(expected) {
-            return Some(turn);
-        }
-    }
-    None
-}
-
-fn are_frames_turned(turned: &Volume) -> bool {
-    turned.bytes().len() == 96 && wrong_turn(turned.bytes()).is_none()
-}
-
-fn are_turns_of_frames(alloc: Global) -> Result<bool, AllocError> {
-    let bytes = Vec::from_slice(alloc, KEPT)?;
-    let sample = Volume::from_bytes(Size { w: 2, h: 1, f: 2 }, 3, bytes);
-    Ok(are_frames_turned(&turn_all(alloc, &sample)?))
-}
-
-#[test]
-fn turns_of_a_clip(rt: HostRuntime) {
-    expect_true(&rt, are_turns_of_frames(rt.alloc()));
+fn is_turned(rt: &impl Abort, alloc: Global, of: &Turns) -> bool {
+    let (size, k, bytes, expected) = *of;
+    let sample = volume_of(rt, alloc, size, k, bytes);
+    assert!(rt; size.cells() <= 64);
+    let Ok(turned) = turn_all(alloc, &sample) else {
+        rt.abort()
+    };
+    (turned.bytes() == expected) & are_turned(&turned.sizes(), size)
 }
 
 // The turns of a picture of 2x2 with the cells 10 20 / 30 40, and then those of one of 3x1 with the cells 1 2 3.
@@ -83,32 +76,24 @@ const BOTH_TURNED: &[u8] = &[
     1, 2, 3,
 ];
 
-fn are_both_turned(turned: &Volume) -> bool {
-    turned.bytes() == BOTH_TURNED && turned.sizes().len() == 16
-}
-
-fn are_turns_of_two(alloc: Global) -> Result<bool, AllocError> {
-    let first = Vec::from_slice(alloc, &[10, 20, 30, 40])?;
-    let mut samples = Volume::from_bytes(Size { w: 2, h: 2, f: 1 }, 1, first);
-    let second = Vec::from_slice(alloc, &[1, 2, 3])?;
-    samples.add_part(&Volume::from_bytes(Size { w: 3, h: 1, f: 1 }, 1, second))?;
-    Ok(are_both_turned(&turn_all(alloc, &samples)?))
+fn are_two_turned(rt: &impl Abort, alloc: Global) -> bool {
+    let mut samples = volume_of(rt, alloc, Size { w: 2, h: 2, f: 1 }, 1, &[10, 20, 30, 40]);
+    let second = volume_of(rt, alloc, Size { w: 3, h: 1, f: 1 }, 1, &[1, 2, 3]);
+    let Ok(()) = samples.add_part(&second) else {
+        rt.abort()
+    };
+    let Ok(turned) = turn_all(alloc, &samples) else {
+        rt.abort()
+    };
+    (turned.bytes() == BOTH_TURNED) & (turned.sizes().len() == 16)
 }
 
 #[test]
-fn turns_of_two_samples(rt: HostRuntime) {
-    expect_true(&rt, are_turns_of_two(rt.alloc()));
-}
-
-// A place by its column, its row and its frame.
-type Place = (i32, i32, i32);
-
-fn at(place: Place) -> At {
-    At {
-        x: place.0,
-        y: place.1,
-        f: place.2,
+fn turns_of_samples(rt: HostRuntime) {
+    for (i, of) in TURNS.iter().enumerate() {
+        expect_row(&rt, i, is_turned(&rt, rt.alloc(), of));
     }
+    expect_true(&rt, are_two_turned(&rt, rt.alloc()));
 }
 
 // The cell that comes to a place of the turned samples, if that leads back there.
@@ -126,68 +111,48 @@ fn there_and_back(samples: &Sizes, place: At) -> Option<Turned>
 }
 
 // A place of the turned samples, and the sample, the turn and the cell that comes there.
-type Comes = (Place, u32, u32, Place);
+type Comes = (Place, Option<(u32, u32, Place)>);
 
 // Samples of 3x2 and 1x1, each turn of which has one frame and an empty one after it.
 const COMES: &[Comes] = &[
-    ((2, 1, 0), 1, 0, (2, 1, 0)),
-    ((0, 0, 2), 1, 1, (0, 1, 0)),
-    ((1, 2, 2), 1, 1, (2, 0, 0)),
-    ((0, 0, 4), 1, 2, (2, 1, 0)),
-    ((0, 0, 6), 1, 3, (2, 0, 0)),
-    ((1, 2, 6), 1, 3, (0, 1, 0)),
-    ((0, 1, 8), 1, 4, (2, 1, 0)),
-    ((0, 0, 10), 1, 5, (2, 1, 0)),
-    ((1, 0, 10), 1, 5, (2, 0, 0)),
-    ((0, 0, 12), 1, 6, (0, 1, 0)),
-    ((1, 0, 14), 1, 7, (0, 1, 0)),
-    ((0, 0, 16), 2, 0, (0, 0, 0)),
-    ((0, 0, 30), 2, 7, (0, 0, 0)),
+    ((2, 1, 0), Some((1, 0, (2, 1, 0)))),
+    ((0, 0, 2), Some((1, 1, (0, 1, 0)))),
+    ((1, 2, 2), Some((1, 1, (2, 0, 0)))),
+    ((0, 0, 4), Some((1, 2, (2, 1, 0)))),
+    ((0, 0, 6), Some((1, 3, (2, 0, 0)))),
+    ((1, 2, 6), Some((1, 3, (0, 1, 0)))),
+    ((0, 1, 8), Some((1, 4, (2, 1, 0)))),
+    ((0, 0, 10), Some((1, 5, (2, 1, 0)))),
+    ((1, 0, 10), Some((1, 5, (2, 0, 0)))),
+    ((0, 0, 12), Some((1, 6, (0, 1, 0)))),
+    ((1, 0, 14), Some((1, 7, (0, 1, 0)))),
+    ((0, 0, 16), Some((2, 0, (0, 0, 0)))),
+    ((0, 0, 30), Some((2, 7, (0, 0, 0)))),
+    // Outside.
+    ((-1, 0, 0), None),
+    ((3, 0, 0), None),
+    ((0, 0, 1), None),
+    ((2, 0, 2), None),
+    ((0, 2, 16), None),
+    ((0, 0, 32), None),
+    ((0, 0, -1), None),
 ];
 
-const OUTSIDE: &[Place] = &[
-    (-1, 0, 0),
-    (3, 0, 0),
-    (0, 0, 1),
-    (2, 0, 2),
-    (0, 2, 16),
-    (0, 0, 32),
-    (0, 0, -1),
-];
-
-// The number of the first place, from 0, to which another cell comes.
-fn wrong_cell(samples: &Sizes) -> Option<usize>
-    requires { length samples.now ≤ 2 }
-{
-    for (i, (place, sample, turn, cell)) in COMES.iter().enumerate() {
-        let expected = Turned {
-            sample: *sample,
-            turn: *turn,
-            at: at(*cell),
-        };
-        if there_and_back(samples, at(*place)) != Some(expected) {
-            return Some(i);
-        }
-    }
-    None
-}
-
-// The number of the first of the places outside, from 0, to which a cell comes.
-fn wrong_outside(samples: &Sizes) -> Option<usize>
-    requires { length samples.now ≤ 2 }
-{
-    for (i, place) in OUTSIDE.iter().enumerate() {
-        if there_and_back(samples, at(*place)).is_some() {
-            return Some(i);
-        }
-    }
-    None
+// What a row says of its place.
+fn comes(of: &Comes) -> Option<Turned> {
+    let (sample, turn, place) = of.1?;
+    Some(Turned {
+        sample,
+        turn,
+        at: at(place),
+    })
 }
 
 #[test]
 fn places_there_and_back(rt: HostRuntime) {
     let mut samples = Sizes::one(Size { w: 3, h: 2, f: 1 });
     samples.add(Size { w: 1, h: 1, f: 1 });
-    expect_none(&rt, Ok(wrong_cell(&samples)));
-    expect_none(&rt, Ok(wrong_outside(&samples)));
+    for (i, of) in COMES.iter().enumerate() {
+        expect_row(&rt, i, there_and_back(&samples, at(of.0)) == comes(of));
+    }
 }

@@ -1,5 +1,5 @@
 use Rattle.map_canvas.specs.Canvases.{StandsOver}
-use Rattle.test_examples.proofs.cut_records.canvas_of.Given as goal
+use Rattle.test_examples.proofs.laying.canvas_with.Given as goal
 
 abbrev pub invariant-cells : goal.invariant-cells
 invariant-cells g l = StandsOver l.canvas l.sample

@@ -2,12 +2,6 @@
 use crate::refusals::refused;
 use std::alloc::{AllocError, Global};
 
-// Adds one byte so many times, and some last bytes.
-fn add_filled(bytes: &mut Vec<u8>, byte: u8, count: usize, last: &[u8]) -> Result<(), AllocError> {
-    bytes.resize(bytes.len().saturating_add(count), byte)?;
-    bytes.extend_from_slice(last)
-}
-
 /// A file of some first bytes, one byte so many times, and some last bytes.
 pub fn filled(
     alloc: Global,
@@ -17,7 +11,8 @@ pub fn filled(
     last: &[u8],
 ) -> Result<Vec<u8>, AllocError> {
     let mut bytes = Vec::from_slice(alloc, first)?;
-    add_filled(&mut bytes, byte, count, last)?;
+    bytes.resize(bytes.len().saturating_add(count), byte)?;
+    bytes.extend_from_slice(last)?;
     Ok(bytes)
 }
 

@@ -35,10 +35,10 @@ fn put_before(stage: &mut Stage, sample: &[u8], second: &[u8]) -> Result<(), All
 // Whether the samples stay, and the other files are as they are to be.
 fn has_after(stage: &Stage, case: &Case) -> bool {
     stage.has_file("s", case.sample)
-        && stage.has_file("t", case.second)
-        && stage.has_file("o", case.picture)
-        && stage.has_file("m", case.map)
-        && stage.has_file("r", case.record)
+        & stage.has_file("t", case.second)
+        & stage.has_file("o", case.picture)
+        & stage.has_file("m", case.map)
+        & stage.has_file("r", case.record)
 }
 
 // Runs a case over a stage without a file, and says whether all is as it is to be.
@@ -46,7 +46,14 @@ fn holds_on(stage: &mut Stage, case: &Case) -> Result<bool, AllocError> {
     put_before(stage, case.sample, case.second)?;
     stage.fail(case.failing, 0)?;
     let is_ended = stage.ends(case.words, case.status, case.report, case.line)?;
-    Ok(is_ended && has_after(stage, case))
+    Ok(
+        is_ended
+            & stage.has_file("s", case.sample)
+            & stage.has_file("t", case.second)
+            & stage.has_file("o", case.picture)
+            & stage.has_file("m", case.map)
+            & stage.has_file("r", case.record),
+    )
 }
 
 /// Runs a case, and says whether all is as it is to be. The samples stay.
@@ -84,7 +91,8 @@ fn is_made_on(stage: &mut Stage, made: &Made) -> Result<bool, AllocError> {
     put_before(stage, made.sample, made.second)?;
     let is_reported = stage.reports(made.words, made.report)?;
     let is_written = stage.has_file("o", made.picture);
-    Ok(is_reported && is_written && stage.reports(made.check, "stands\n")?)
+    let stands = stage.reports(made.check, "stands\n")?;
+    Ok(is_reported & is_written & stands)
 }
 
 /// Runs both lines, and says whether the report and the out file are these, and the files stand.

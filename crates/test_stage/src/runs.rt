@@ -20,7 +20,7 @@ fn leaves_on(stage: &mut Stage, run: &Run) -> Result<bool, AllocError> {
     stage.put_files(run.before)?;
     stage.fail(run.failing, 0)?;
     let is_ended = stage.ends(run.words, run.status, run.report, run.line)?;
-    Ok(is_ended && stage.has_files(run.after))
+    Ok(is_ended & stage.has_files(run.after))
 }
 
 /// Whether a run ends so, and leaves these files.

@@ -180,7 +180,7 @@ impl Stage {
 
     /// Whether the report and the line are these.
     pub fn has_said(&self, report: &str, line: &str) -> bool {
-        self.report() == report.as_bytes() && self.line() == line.as_bytes()
+        (self.report() == report.as_bytes()) & (self.line() == line.as_bytes())
     }
 
     /// Runs a line of words, and says whether it ends with this status, this report and this line.
@@ -192,7 +192,7 @@ impl Stage {
         line: &str,
     ) -> Result<bool, AllocError> {
         let ended = self.run(words)?;
-        Ok(ended == status && self.has_said(report, line))
+        Ok((ended == status) & self.has_said(report, line))
     }
 
     /// Begins a report and a line, and says whether the words end with status 0, this report and no line.

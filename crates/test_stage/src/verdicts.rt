@@ -18,13 +18,21 @@ pub struct Verdict<'a> {
 
 const FILES: &str = "check sample=s out=o map=m record=r";
 
-// A file with the other bytes of its name.
-fn changed(
+// Sets a file that may neither be begun nor added to.
+fn put_kept(stage: &mut Stage, name: &str, bytes: &[u8]) -> Result<(), AllocError> {
+    stage.put_file(name, bytes)?;
+    stage.fail(Failing::Begin(name), 0)?;
+    stage.fail(Failing::Add(name, 0), 0)
+}
+
+// Sets a file with the other bytes of its name.
+fn put_changed(
     alloc: Global,
-    file: &[u8],
+    stage: &mut Stage,
     name: &str,
+    file: &[u8],
     bytes: &[(&str, usize, u8)],
-) -> Result<Vec<u8>, AllocError> {
+) -> Result<(), AllocError> {
     let mut all = Vec::from_slice(alloc, file)?;
     for (of, at, byte) in bytes {
         if *of == name
@@ -33,25 +41,9 @@ fn changed(
             *old = *byte;
         }
     }
-    Ok(all)
-}
-
-// Sets a file that may neither be begun nor added to.
-fn put_kept(stage: &mut Stage, name: &str, bytes: &[u8]) -> Result<(), AllocError> {
-    stage.put_file(name, bytes)?;
-    stage.fail(Failing::Begin(name), 0)?;
-    stage.fail(Failing::Add(name, 0), 0)
-}
-
-fn put_changed(
-    alloc: Global,
-    stage: &mut Stage,
-    name: &str,
-    file: &[u8],
-    bytes: &[(&str, usize, u8)],
-) -> Result<(), AllocError> {
-    let all = changed(alloc, file, name, bytes)?;
-    put_kept(stage, name, &all)
+    let put = put_kept(stage, name, &all);
+    drop(all);
+    put
 }
 
 fn put_all(alloc: Global, stage: &mut Stage, of: &Verdict) -> Result<(), AllocError> {
@@ -70,7 +62,7 @@ fn is_judged_on(
 ) -> Result<bool, AllocError> {
     put_all(alloc, stage, of)?;
     let is_ended = stage.ends(words, of.status, of.report, of.line)?;
-    Ok(is_ended && stage.write_faults() == 0)
+    Ok(is_ended & (stage.write_faults() == 0))
 }
 
 // Checks the files by these words, and says whether status, report and line are these, and no file is written.
@@ -105,48 +97,46 @@ pub fn wrong_verdict(alloc: Global, table: &[Verdict]) -> Result<Option<usize>, 
     wrong_verdict_by(alloc, FILES, table)
 }
 
-// Checks a map of which there are so many first bytes: it is refused at their end.
-fn is_map_cut(alloc: Global, of: &Verdict, n: usize) -> Result<bool, AllocError> {
-    let line = format!(in alloc; "weave: map: form at {n}\n")?;
+// Checks a map or a record of which there are so many first bytes: it is refused at their end.
+fn is_cut(alloc: Global, of: &Verdict, n: usize, is_map: bool) -> Result<bool, AllocError> {
+    let (name, map, record) = if is_map {
+        ("map", of.map.get(..n).unwrap_or(b""), of.record)
+    } else {
+        ("record", of.map, of.record.get(..n).unwrap_or(b""))
+    };
+    let line = format!(in alloc; "weave: {name}: form at {n}\n")?;
     let cut = Verdict {
-        map: of.map.get(..n).unwrap_or(b""),
+        map,
+        record,
         status: 3,
         report: "",
         line: line.as_str(),
         ..*of
     };
     is_judged(alloc, &cut)
+}
+
+// The least number of first bytes of a map or a record that aren't refused at their end.
+fn wrong_cut(
+    alloc: Global,
+    of: &Verdict,
+    length: usize,
+    is_map: bool,
+) -> Result<Option<usize>, AllocError> {
+    for n in 0..length {
+        if !is_cut(alloc, of, n, is_map)? {
+            return Ok(Some(n));
+        }
+    }
+    Ok(None)
 }
 
 /// The least number of first bytes of the map that aren't refused at their end.
 pub fn wrong_map_cut(alloc: Global, of: &Verdict) -> Result<Option<usize>, AllocError> {
-    for n in 0..of.map.len() {
-        if !is_map_cut(alloc, of, n)? {
-            return Ok(Some(n));
-        }
-    }
-    Ok(None)
-}
-
-// The same of a record.
-fn is_record_cut(alloc: Global, of: &Verdict, n: usize) -> Result<bool, AllocError> {
-    let line = format!(in alloc; "weave: record: form at {n}\n")?;
-    let cut = Verdict {
-        record: of.record.get(..n).unwrap_or(b""),
-        status: 3,
-        report: "",
-        line: line.as_str(),
-        ..*of
-    };
-    is_judged(alloc, &cut)
+    wrong_cut(alloc, of, of.map.len(), true)
 }
 
 /// The least number of first bytes of the record that aren't refused at their end.
 pub fn wrong_record_cut(alloc: Global, of: &Verdict) -> Result<Option<usize>, AllocError> {
-    for n in 0..of.record.len() {
-        if !is_record_cut(alloc, of, n)? {
-            return Ok(Some(n));
-        }
-    }
-    Ok(None)
+    wrong_cut(alloc, of, of.record.len(), false)
 }

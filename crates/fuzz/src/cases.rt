@@ -1,12 +1,19 @@
 // One case: words, files and what fails, drawn from a seed.
 use crate::changes::change_files;
 use crate::dice::Dice;
-use crate::files::{File, NAMES, copy_of};
+use crate::files::{File, NAMES, add_files, put_files};
 use crate::pool::World;
-use crate::runs::Fault;
-use crate::words::texts;
+use crate::words::put_words;
 use std::alloc::{AllocError, Global};
-use test_stage::Failing;
+use test_stage::{Failing, Stage};
+
+/// What fails in a run, after so many of its kind that go well: a call on a file or a write of the
+/// report; or a write of the line, which keeps so many bytes of its piece.
+#[derive(Drop)]
+pub enum Fault {
+    Call(Failing<'static>, u8),
+    Line(u8, usize),
+}
 
 /// What is run.
 #[derive(Drop)]
@@ -16,14 +23,9 @@ pub struct Case {
     pub fault: Fault,
 }
 
-// A small number.
-fn few(dice: &mut Dice) -> u8 {
-    u8::try_from(dice.below(6)).unwrap_or(0)
-}
-
-fn fault(dice: &mut Dice) -> Fault {
-    let name = dice.text(&NAMES);
-    let after = few(dice);
+fn drawn_fault(dice: &mut Dice) -> Fault {
+    let name = dice.text(NAMES);
+    let after = u8::try_from(dice.below(6)).unwrap_or(0);
     let kept = dice.below(9);
     match dice.below(10) {
         0 | 1 | 2 => Fault::Call(Failing::Get(name), after),
@@ -34,52 +36,45 @@ fn fault(dice: &mut Dice) -> Fault {
     }
 }
 
-// Leaves out the last of the files in one of sixteen cases, and changes some in two of three.
-fn change_some(files: &mut Vec<File>, worlds: &[World], dice: &mut Dice) -> Result<(), AllocError> {
-    if dice.is_one_in(16) {
-        files.truncate(dice.below(files.len()));
+impl Case {
+    /// No word, no file, and nothing that fails.
+    pub fn new(alloc: Global) -> Case {
+        Case {
+            texts: Vec::new(alloc),
+            files: Vec::new(alloc),
+            fault: Fault::Call(Failing::Nothing, 0),
+        }
     }
-    if dice.is_one_in(3) {
-        return Ok(());
+
+    /// Begins again, with the words and the files of some run, as these draws change them.
+    pub fn draw(
+        &mut self,
+        alloc: Global,
+        worlds: &[World],
+        dice: &mut Dice,
+    ) -> Result<(), AllocError> {
+        self.texts.clear();
+        self.files.clear();
+        let Some(world) = worlds.get(dice.below(worlds.len())) else {
+            return Ok(());
+        };
+        put_words(alloc, &mut self.texts, world, dice)?;
+        add_files(alloc, &mut self.files, &world.stage)?;
+        change_files(&mut self.files, worlds, dice)?;
+        self.fault = drawn_fault(dice);
+        Ok(())
     }
-    change_files(files, worlds, dice)
-}
 
-fn changed_copy(
-    alloc: Global,
-    world: &World,
-    worlds: &[World],
-    dice: &mut Dice,
-) -> Result<Vec<File>, AllocError> {
-    let mut files = copy_of(alloc, &world.files)?;
-    change_some(&mut files, worlds, dice)?;
-    Ok(files)
-}
-
-// A case that begins with the words and the files of a run.
-fn case_from(
-    alloc: Global,
-    world: &World,
-    worlds: &[World],
-    dice: &mut Dice,
-) -> Result<Case, AllocError> {
-    let texts = texts(alloc, world, dice)?;
-    let files = changed_copy(alloc, world, worlds, dice)?;
-    Ok(Case {
-        texts,
-        files,
-        fault: fault(dice),
-    })
-}
-
-/// The case of these draws; None where there is no run to begin with.
-pub fn case_of(
-    alloc: Global,
-    worlds: &[World],
-    mut dice: Dice,
-) -> Result<Option<Case>, AllocError> {
-    match worlds.get(dice.below(worlds.len())) {
-        Some(world) => Ok(Some(case_from(alloc, world, worlds, &mut dice)?)),
-        None => Ok(None),
+    /// Runs the words over the files on an empty stage, where nothing fails or what is to fail, and
+    /// gives the status.
+    pub fn run_on(&self, stage: &mut Stage, is_failing: bool) -> Result<u8, AllocError> {
+        put_files(stage, &self.files)?;
+        if is_failing {
+            match self.fault {
+                Fault::Call(failing, after) => stage.fail(failing, after)?,
+                Fault::Line(after, kept) => stage.fail_line(after, kept)?,
+            }
+        }
+        stage.run_texts(&self.texts)
     }
 }

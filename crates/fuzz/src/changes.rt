@@ -1,6 +1,6 @@
 // Bytes of files that are changed: turned, cut, joined, and fields overwritten.
 use crate::dice::Dice;
-use crate::files::File;
+use crate::files::{File, NAMES};
 use crate::pool::World;
 use std::alloc::AllocError;
 
@@ -32,53 +32,60 @@ const NUMBERS: [u32; 14] = [
 // The first byte of a field of 4 bytes that is written: fields have 4, 2 or 1 of them.
 const STARTS: [usize; 3] = [0, 2, 3];
 
-fn turn_bit(bytes: &mut Vec<u8>, dice: &mut Dice) {
-    let bit = BITS.get(dice.below(8)).copied().unwrap_or(1);
+// Turns a bit of a byte, or puts another byte in its place.
+fn change_byte(bytes: &mut Vec<u8>, dice: &mut Dice, is_bit: bool) {
+    let drawn = if is_bit {
+        BITS.get(dice.below(BITS.len()))
+    } else {
+        BYTES.get(dice.below(BYTES.len()))
+    };
+    let drawn = drawn.copied().unwrap_or(0);
     if let Some(byte) = bytes.get_mut(dice.below(bytes.len())) {
-        *byte ^= bit;
+        *byte = if is_bit { *byte ^ drawn } else { drawn };
     }
 }
 
-fn put_byte(bytes: &mut Vec<u8>, dice: &mut Dice) {
-    let new = BYTES.get(dice.below(BYTES.len())).copied().unwrap_or(0);
-    if let Some(byte) = bytes.get_mut(dice.below(bytes.len())) {
-        *byte = new;
+// Puts a number in the place of some bytes, as a field of 4, 2 or 1.
+fn put_field(bytes: &mut [u8], dice: &mut Dice) {
+    let number = NUMBERS.get(dice.below(NUMBERS.len())).copied().unwrap_or(0);
+    let start = STARTS.get(dice.below(STARTS.len())).copied().unwrap_or(0);
+    let number = number.to_be_bytes();
+    let field = number.get(start..).unwrap_or(b"");
+    if let Some(place) = bytes.get_mut(dice.below(bytes.len())..) {
+        let n = place.len().min(field.len());
+        place[..n].copy_from_slice(&field[..n]);
     }
 }
 
-fn put_field(bytes: &mut Vec<u8>, dice: &mut Dice) {
-    let number = NUMBERS
-        .get(dice.below(NUMBERS.len()))
-        .copied()
-        .unwrap_or(0)
-        .to_be_bytes();
-    let start = STARTS.get(dice.below(3)).copied().unwrap_or(0);
-    let at = dice.below(bytes.len());
-    for (i, new) in number.iter().skip(start).enumerate() {
-        if let Some(byte) = bytes.get_mut(at.saturating_add(i)) {
-            *byte = *new;
-        }
+// Puts another file in the place of the bytes, cuts them off, or joins its last bytes to the first
+// of them.
+fn put_other(
+    bytes: &mut Vec<u8>,
+    other: &[u8],
+    way: usize,
+    dice: &mut Dice,
+) -> Result<(), AllocError> {
+    if way == 8 {
+        bytes.clear();
+        return bytes.extend_from_slice(other);
     }
-}
-
-// The first bytes of one file, and the last of another.
-fn join(bytes: &mut Vec<u8>, other: &[u8], dice: &mut Dice) -> Result<(), AllocError> {
     bytes.truncate(dice.below(bytes.len().saturating_add(1)));
+    if way == 6 {
+        return Ok(());
+    }
     let rest = other.get(dice.below(other.len())..).unwrap_or(b"");
     bytes.extend_from_slice(rest)
 }
 
 fn change(bytes: &mut Vec<u8>, other: &[u8], dice: &mut Dice) -> Result<(), AllocError> {
-    match dice.below(9) {
-        0 | 1 => turn_bit(bytes, dice),
-        2 | 3 => put_byte(bytes, dice),
-        4 | 5 => put_field(bytes, dice),
-        6 => bytes.truncate(dice.below(bytes.len().saturating_add(1))),
-        7 => join(bytes, other, dice)?,
-        _ => {
-            bytes.clear();
-            bytes.extend_from_slice(other)?;
-        }
+    let way = dice.below(9);
+    if way >= 6 {
+        return put_other(bytes, other, way, dice);
+    }
+    if way >= 4 {
+        put_field(bytes, dice);
+    } else {
+        change_byte(bytes, dice, way < 2);
     }
     Ok(())
 }
@@ -88,18 +95,23 @@ fn some_file<'a>(worlds: &'a [World], dice: &mut Dice) -> &'a [u8] {
     let Some(world) = worlds.get(dice.below(worlds.len())) else {
         return b"";
     };
-    match world.files.get(dice.below(world.files.len())) {
-        Some(file) => &file.bytes,
-        None => b"",
-    }
+    let name = NAMES.get(dice.below(world.count)).copied().unwrap_or("");
+    world.stage.file(name).unwrap_or(b"")
 }
 
-/// Changes one to three of the files, or one of them so often.
+/// Leaves out the last of the files in one of sixteen cases, and changes one to three of them, or
+/// one of them so often, in two of three.
 pub fn change_files(
     files: &mut Vec<File>,
     worlds: &[World],
     dice: &mut Dice,
 ) -> Result<(), AllocError> {
+    if dice.below(16) == 0 {
+        files.truncate(dice.below(files.len()));
+    }
+    if dice.below(3) == 0 {
+        return Ok(());
+    }
     let times = dice.below(3).saturating_add(1);
     for _ in 0..times {
         let other = some_file(worlds, dice);

@@ -2,7 +2,7 @@
 
 /// Numbers that follow from a seed, one after another, by the method of Steele, Lea and Flood
 /// ("Fast splittable pseudorandom number generators", 2014).
-#[derive(Clone, Copy, Drop)]
+#[derive(Drop)]
 pub struct Dice {
     state: u64,
 }
@@ -27,11 +27,6 @@ impl Dice {
     /// A number below `n`; 0 where `n` is 0.
     pub fn below(&mut self, n: usize) -> usize {
         self.draw().checked_rem(n as u64).unwrap_or(0) as usize
-    }
-
-    /// Whether one of so many equal chances came.
-    pub fn is_one_in(&mut self, n: usize) -> bool {
-        self.below(n) == 0
     }
 
     /// One of a list of texts.

@@ -11,8 +11,8 @@
 // before. So it can be run with each allocation failing in turn.
 //
 // `dice` draws, `pool` makes valid files, `changes` changes them, `words` has the words, `cases` a
-// case, `runs` runs it over stores in memory, and `judge` holds it against the promises, with
-// `lines` and `written`. `memory` has the runs over stores that take none.
+// case, which it runs over a stage, and `judge` holds it against the promises, with `lines` and
+// `written`. `memory` has the runs over stores that take none.
 #![tactic(auto)]
 
 mod cases;
@@ -23,18 +23,17 @@ mod judge;
 mod lines;
 mod memory;
 mod pool;
-mod runs;
 mod words;
 mod written;
 
-use cases::{Case, case_of};
+use cases::Case;
 use dice::Dice;
 use judge::judge_case;
 use memory::{Surely, end_of};
-use pool::{World, all_stand, pool};
-use std::alloc::{AllocError, Global};
+use pool::{MADE, World, add_worlds};
 use std::process::ExitCode;
 use std::{env, io};
+use words::add_line;
 
 // How many cases are run where no word says it.
 const FEW_CASES: u64 = 100;
@@ -44,37 +43,25 @@ const NO_MEMORY: u8 = 7;
 
 // What came of the cases: how many ended with each status where nothing fails, and where what they
 // name fails; and how many broke a promise.
-#[derive(Clone, Copy, Drop)]
+#[derive(Drop)]
 struct Counts {
-    ended: [u64; 9],
-    failed: [u64; 9],
+    ended: [(u64, u64); 9],
     broken: u64,
 }
 
-fn count_one(counts: &mut [u64], status: u8) {
-    if let Some(count) = counts.get_mut(usize::from(status)) {
-        *count = count.saturating_add(1);
+impl Counts {
+    // One more has ended so where nothing fails, and so where what it names fails.
+    fn add(&mut self, status: u8, failed: u8) {
+        if let Some((count, _)) = self.ended.get_mut(usize::from(status)) {
+            *count = count.saturating_add(1);
+        }
+        if let Some((_, count)) = self.ended.get_mut(usize::from(failed)) {
+            *count = count.saturating_add(1);
+        }
     }
 }
 
-fn number_of(word: Option<String>, default: u64) -> u64 {
-    match word {
-        Some(word) => word.as_str().parse::<u64>().unwrap_or(default),
-        None => default,
-    }
-}
-
-// The words of a case as one line.
-fn line_of(alloc: Global, case: &Case) -> Result<String, AllocError> {
-    let mut line = String::new(alloc);
-    for text in case.texts.iter() {
-        line.push_str(text.as_str())?;
-        line.push(' ')?;
-    }
-    Ok(line)
-}
-
-// Says which promise a case breaks.
+// Says which promise a case breaks, and its words.
 fn say_broken(
     rt: &HostRuntime,
     case: &Case,
@@ -82,15 +69,23 @@ fn say_broken(
     status: u8,
     broken: &str,
 ) -> io::Result<()> {
-    let line = line_of(rt.alloc(), case)?;
+    let mut line = String::new(rt.alloc());
+    add_line(&mut line, &case.texts, true)?;
     println!(rt; "case {number}: {broken}; status {status}: {line}")
 }
 
-// Judges one case.
-fn try_case(rt: &HostRuntime, case: &Case, number: u64, counts: &mut Counts) -> io::Result<()> {
+// Runs the case of a number, and judges it.
+fn run_case(
+    rt: &HostRuntime,
+    case: &mut Case,
+    worlds: &[World],
+    seed: u64,
+    number: u64,
+    counts: &mut Counts,
+) -> io::Result<()> {
+    case.draw(rt.alloc(), worlds, &mut Dice::of(seed, number))?;
     let found = judge_case(rt.alloc(), case)?;
-    count_one(&mut counts.ended, found.status);
-    count_one(&mut counts.failed, found.failed);
+    counts.add(found.status, found.failed);
     match found.broken {
         Some(broken) => {
             counts.broken = counts.broken.saturating_add(1);
@@ -100,86 +95,96 @@ fn try_case(rt: &HostRuntime, case: &Case, number: u64, counts: &mut Counts) -> 
     }
 }
 
-// Runs one case.
-fn run_case(
-    rt: &HostRuntime,
-    worlds: &[World],
-    seed: u64,
-    number: u64,
-    counts: &mut Counts,
-) -> io::Result<()> {
-    match case_of(rt.alloc(), worlds, Dice::of(seed, number))? {
-        Some(case) => try_case(rt, &case, number, counts),
-        None => Ok(()),
-    }
-}
-
 fn print_counts(rt: &HostRuntime, counts: &Counts) -> io::Result<()> {
-    for (status, (ended, failed)) in counts.ended.iter().zip(counts.failed.iter()).enumerate() {
+    for (status, (ended, failed)) in counts.ended.iter().enumerate() {
         println!(rt; "status {status}: {ended}, with a call that fails {failed}")?;
     }
     let broken = counts.broken;
     println!(rt; "broken: {broken}")
 }
 
-// Draws cases over these files from a seed, and runs them.
-fn run_over(
+// Draws cases from a seed, and runs them.
+fn run_cases(
     rt: &HostRuntime,
     worlds: &[World],
+    case: &mut Case,
     seed: u64,
-    runs: u64,
     first: u64,
+    end: u64,
 ) -> io::Result<ExitCode> {
-    if !all_stand(rt.alloc(), worlds)? {
-        println!(rt; "the files to begin with don't stand")?;
-        return Ok(ExitCode::from(1));
-    }
     let mut counts = Counts {
-        ended: [0; 9],
-        failed: [0; 9],
+        ended: [(0, 0); 9],
         broken: 0,
     };
-    for number in first..first.saturating_add(runs) {
-        run_case(rt, worlds, seed, number, &mut counts)?;
+    for number in first..end {
+        run_case(rt, case, worlds, seed, number, &mut counts)?;
     }
     print_counts(rt, &counts)?;
     Ok(ExitCode::from(u8::from(counts.broken > 0)))
 }
 
-// Draws cases from a seed, and runs them.
-fn run_cases(rt: &HostRuntime, seed: u64, runs: u64, first: u64) -> io::Result<ExitCode> {
-    let worlds = pool(rt.alloc())?;
-    let ended = run_over(rt, &worlds, seed, runs, first);
-    drop(worlds);
-    ended
+// The same, once the files to begin with are made.
+fn make_and_run(
+    rt: &HostRuntime,
+    worlds: &mut Vec<World>,
+    case: &mut Case,
+    seed: u64,
+    first: u64,
+    end: u64,
+) -> io::Result<ExitCode> {
+    if add_worlds(rt.alloc(), worlds, MADE)? {
+        return run_cases(rt, worlds, case, seed, first, end);
+    }
+    println!(rt; "the files to begin with don't stand")?;
+    Ok(ExitCode::from(1))
 }
 
 // Does one run over stores that take no memory.
 fn run_surely(rt: &HostRuntime, number: usize) -> io::Result<ExitCode> {
-    match end_of(rt.alloc(), number) {
-        Ok(Surely::Well) => {
-            println!(rt; "run {number} ended well")?;
-            Ok(ExitCode::from(0))
-        }
-        Ok(Surely::Wrong) => {
-            println!(rt; "run {number} is wrong")?;
-            Ok(ExitCode::from(0))
-        }
-        Ok(Surely::NoMemory) | Err(_) => Ok(ExitCode::from(NO_MEMORY)),
+    let ended = match end_of(rt.alloc(), number) {
+        Ok(Surely::Well) => "ended well",
+        Ok(Surely::Wrong) => "is wrong",
+        Ok(Surely::NoMemory) | Err(_) => return Ok(ExitCode::from(NO_MEMORY)),
+    };
+    println!(rt; "run {number} {ended}")?;
+    Ok(ExitCode::from(0))
+}
+
+fn number_of(word: Option<String>) -> Option<u64> {
+    match word {
+        Some(word) => word.as_str().parse::<u64>().ok(),
+        None => None,
     }
 }
 
-fn main(rt: HostRuntime) -> io::Result<ExitCode> {
-    let mut words = env::args(&rt)?.skip(1);
+// Whether the first word is `memory`, and the numbers that the first three say.
+fn asked(rt: &HostRuntime) -> io::Result<(bool, [Option<u64>; 3])> {
+    let mut words = env::args(rt)?.skip(1);
     let first = words.next();
-    if let Some(word) = &first
-        && word.as_str() == "memory"
-    {
-        let number = number_of(words.next(), 0);
-        return run_surely(&rt, usize::try_from(number).unwrap_or(0));
+    let is_memory = match &first {
+        Some(word) => word.as_str() == "memory",
+        None => false,
+    };
+    let numbers = [
+        number_of(first),
+        number_of(words.next()),
+        number_of(words.next()),
+    ];
+    Ok((is_memory, numbers))
+}
+
+fn main(rt: HostRuntime) -> io::Result<ExitCode> {
+    let (is_memory, [first, second, third]) = asked(&rt)?;
+    if is_memory {
+        return run_surely(&rt, usize::try_from(second.unwrap_or(0)).unwrap_or(0));
     }
-    let seed = number_of(first, 1);
-    let runs = number_of(words.next(), FEW_CASES);
-    let from = number_of(words.next(), 0);
-    run_cases(&rt, seed, runs, from)
+    let from = third.unwrap_or(0);
+    let end = from.saturating_add(second.unwrap_or(FEW_CASES));
+    let mut worlds = Vec::new(rt.alloc());
+    let mut case = Case::new(rt.alloc());
+    let seed = first.unwrap_or(1);
+    let ended = make_and_run(&rt, &mut worlds, &mut case, seed, from, end);
+    drop(case);
+    drop(worlds);
+    ended
 }

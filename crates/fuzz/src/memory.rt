@@ -145,7 +145,7 @@ const RUNS: &[Sure<'static>] = &[
 ];
 
 /// How a run over sure stores ended.
-#[derive(Clone, Copy, Drop)]
+#[derive(Drop)]
 pub enum Surely {
     /// As it is to end where there is memory.
     Well,
@@ -153,12 +153,6 @@ pub enum Surely {
     NoMemory,
     /// With another answer, or with other files.
     Wrong,
-}
-
-fn put_files(shelf: &mut SureShelf, files: &[File]) {
-    for (name, bytes) in files.iter() {
-        shelf.put_file(*name, *bytes);
-    }
 }
 
 fn are_files(shelf: &SureShelf, files: &[File]) -> bool {
@@ -170,11 +164,8 @@ fn are_files(shelf: &SureShelf, files: &[File]) -> bool {
     true
 }
 
-// Whether an answer is out of memory and left all as it was.
-fn is_refused(shelf: &SureShelf, out: &SureSink, err: &SureSink, files: &[File]) -> bool {
-    out.bytes() == Some(b"".as_slice())
-        && err.bytes() == Some(b"weave: no memory\n".as_slice())
-        && are_files(shelf, files)
+fn is_text(sink: &SureSink, text: &str) -> bool {
+    sink.bytes() == Some(text.as_bytes())
 }
 
 // How a run ended, by its status and what it left.
@@ -186,20 +177,18 @@ fn judged(
     files: &[File],
     report: &str,
 ) -> Surely {
-    if status == 0
-        && out.bytes() == Some(report.as_bytes())
-        && err.bytes() == Some(b"".as_slice())
-    {
+    if (status == 0) & is_text(out, report) & is_text(err, "") {
         return Surely::Well;
     }
-    if status == 7 && is_refused(shelf, out, err, files) {
+    let is_refused = (status == 7) & is_text(out, "") & is_text(err, "weave: no memory\n");
+    if is_refused & are_files(shelf, files) {
         return Surely::NoMemory;
     }
     Surely::Wrong
 }
 
-// Does a run over these stores.
-fn ended_with(
+// Does a run over these stores, which are empty.
+fn ended_on(
     alloc: Global,
     run: &Sure,
     shelf: &mut SureShelf,
@@ -207,39 +196,30 @@ fn ended_with(
     err: &mut SureSink,
 ) -> Result<Surely, AllocError> {
     let (words, files, report) = *run;
+    for (name, bytes) in files.iter() {
+        shelf.put_file(*name, *bytes);
+    }
     let status = ran(alloc, words, shelf, out, err)?;
     Ok(judged(status, shelf, out, err, files, report))
 }
 
-// (A function owns one store, and borrows the rest: each place where one ends is long to prove.)
-fn ended_into(
-    alloc: Global,
-    run: &Sure,
-    shelf: &mut SureShelf,
-    out: &mut SureSink,
-) -> Result<Surely, AllocError> {
-    let mut err = SureSink::make(alloc, 256)?;
-    ended_with(alloc, run, shelf, out, &mut err)
-}
-
-fn ended_over(alloc: Global, run: &Sure, shelf: &mut SureShelf) -> Result<Surely, AllocError> {
-    let mut out = SureSink::make(alloc, 256)?;
-    ended_into(alloc, run, shelf, &mut out)
-}
-
-// Does a run over stores of its own.
-fn ended(alloc: Global, run: &Sure) -> Result<Surely, AllocError> {
-    let mut shelf = SureShelf::make(alloc, 8192)?;
-    let (_, files, _) = *run;
-    put_files(&mut shelf, files);
-    ended_over(alloc, run, &mut shelf)
+// (By itself, so that the table is no part of the proof of what is done with a run.)
+fn run_of(number: usize) -> Option<&'static Sure<'static>> {
+    RUNS.get(number)
 }
 
 /// Does the run of a number. The one error is that there is no memory for its stores and its
 /// words.
 pub fn end_of(alloc: Global, number: usize) -> Result<Surely, AllocError> {
-    match RUNS.get(number) {
-        Some(run) => ended(alloc, run),
-        None => Ok(Surely::Wrong),
-    }
+    let Some(run) = run_of(number) else {
+        return Ok(Surely::Wrong);
+    };
+    let mut out = SureSink::make(alloc, 256)?;
+    let mut err = SureSink::make(alloc, 256)?;
+    let mut shelf = SureShelf::make(alloc, 8192)?;
+    let ended = ended_on(alloc, run, &mut shelf, &mut out, &mut err);
+    drop(shelf);
+    drop(err);
+    drop(out);
+    ended
 }

@@ -1,15 +1,20 @@
 // Valid files of all kinds, made by runs.
-use crate::files::{File, files_of, stage_of};
+use crate::files::NAMES;
 use std::alloc::{AllocError, Global};
 use test_stage::Stage;
 
-/// A run that ended well: its words, the words that check it, and the files after it.
+/// A run that ended well: its words, the words that check it, the files after it, and how many
+/// there are, which have the first of the names.
 #[derive(Drop)]
 pub struct World {
     pub words: &'static str,
     pub check: &'static str,
-    pub files: Vec<File>,
+    pub stage: Stage,
+    pub count: usize,
 }
+
+// How many files there are where nothing is upgraded: the samples, the marks, and what is written.
+const FEW_FILES: usize = 6;
 
 const CHECK: &str = "check sample=s out=o map=m record=r";
 
@@ -48,8 +53,11 @@ const SIX_FRAMES: &[u8] =
     b"YUV4MPEG2 W1 H1 F25:1 Cmono X\nFRAME\n\x05FRAME\n\x09FRAME\n\x05FRAME\n\x09\
 FRAME\n\x05FRAME\n\x09";
 
-// The words of each run, those of its check, and its samples.
-const MADE: &[(&str, &str, &[u8], &[u8])] = &[
+/// The words of a run, those of its check, and its samples.
+pub type Made<'a> = (&'a str, &'a str, &'a [u8], &'a [u8]);
+
+/// Runs of all commands; the files of growths of one sample are upgraded to version 2 too.
+pub const MADE: &[Made<'static>] = &[
     (
         "grow sample=s out=o map=m record=r width=6 height=1 place=grid overlap=2 box=4 rounds=1",
         CHECK,
@@ -150,67 +158,37 @@ const MADE: &[(&str, &str, &[u8], &[u8])] = &[
 
 const UPGRADE: &str = "upgrade map=m record=r newmap=n newrecord=q";
 
-// Runs both lines over these samples; where one is refused, the files are as before it.
-fn made_on(
+impl World {
+    // Runs both lines over these samples, and says whether `check` finds that the files stand.
+    fn make(&mut self, sample: &[u8], second: &[u8]) -> Result<bool, AllocError> {
+        self.stage.put_file("s", sample)?;
+        self.stage.put_file("t", second)?;
+        self.stage.put_file("u", MARKS)?;
+        self.stage.run(self.words)?;
+        if self.stage.run(UPGRADE)? == 0 {
+            self.count = NAMES.len();
+        }
+        Ok(self.stage.run(self.check)? == 0)
+    }
+}
+
+/// Adds the worlds of a table, and says whether `check` finds that the files of all stand.
+pub fn add_worlds(
     alloc: Global,
-    stage: &mut Stage,
-    words: &str,
-    sample: &[u8],
-    second: &[u8],
-) -> Result<Vec<File>, AllocError> {
-    stage.put_file("s", sample)?;
-    stage.put_file("t", second)?;
-    stage.put_file("u", MARKS)?;
-    stage.run(words)?;
-    stage.run(UPGRADE)?;
-    files_of(alloc, stage)
-}
-
-fn made(alloc: Global, words: &str, sample: &[u8], second: &[u8]) -> Result<Vec<File>, AllocError> {
-    let mut stage = Stage::new(alloc);
-    let files = made_on(alloc, &mut stage, words, sample, second);
-    drop(stage);
-    files
-}
-
-fn add_worlds(alloc: Global, worlds: &mut Vec<World>) -> Result<(), AllocError> {
-    for (words, check, sample, second) in MADE.iter() {
-        let files = made(alloc, *words, *sample, *second)?;
+    worlds: &mut Vec<World>,
+    table: &[Made<'static>],
+) -> Result<bool, AllocError> {
+    let mut all_stand = true;
+    for (words, check, sample, second) in table {
         worlds.push(World {
             words: *words,
             check: *check,
-            files,
+            stage: Stage::new(alloc),
+            count: FEW_FILES,
         })?;
-    }
-    Ok(())
-}
-
-/// The files of runs of all commands; those of growths of one sample in version 2 too.
-pub fn pool(alloc: Global) -> Result<Vec<World>, AllocError> {
-    let mut worlds = Vec::new(alloc);
-    add_worlds(alloc, &mut worlds)?;
-    Ok(worlds)
-}
-
-// Whether a line ends with status 0.
-fn ends_well(stage: &mut Stage, line: &str) -> Result<bool, AllocError> {
-    Ok(stage.run(line)? == 0)
-}
-
-// Whether `check` finds that the files of a run stand.
-fn stands(alloc: Global, world: &World) -> Result<bool, AllocError> {
-    let mut stage = stage_of(alloc, &world.files)?;
-    let found = ends_well(&mut stage, world.check);
-    drop(stage);
-    found
-}
-
-/// Whether `check` finds that the files of every run stand.
-pub fn all_stand(alloc: Global, worlds: &[World]) -> Result<bool, AllocError> {
-    for world in worlds.iter() {
-        if !stands(alloc, world)? {
-            return Ok(false);
+        if let Some(world) = worlds.last_mut() {
+            all_stand &= world.make(*sample, *second)?;
         }
     }
-    Ok(true)
+    Ok(all_stand)
 }

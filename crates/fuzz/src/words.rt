@@ -103,20 +103,8 @@ const ODD_WORDS: &[&str] = &[
     "a b=c d",
 ];
 
-fn odd_word(dice: &mut Dice) -> &'static str {
-    dice.text(ODD_WORDS)
-}
-
-// The words before they are changed.
-fn line(world: &World, dice: &mut Dice) -> &'static str {
-    match dice.below(12) {
-        0 | 1 | 2 | 3 => world.words,
-        4 | 5 | 6 | 7 => world.check,
-        8 => "check sample=s out=o map=n record=q",
-        9 => "upgrade map=m record=r newmap=n newrecord=q",
-        _ => dice.text(LINES),
-    }
-}
+// The keys, beside those of samples, of the words that `check` knows.
+const OF_CHECK: [&str; 4] = ["out", "map", "record", "turns"];
 
 fn put(alloc: Global, texts: &mut Vec<String>, word: &str) -> Result<(), AllocError> {
     texts.push(String::from_str(alloc, word)?)?;
@@ -139,29 +127,8 @@ fn put_value(
     Ok(())
 }
 
-// The word, changed.
-fn put_changed(
-    alloc: Global,
-    texts: &mut Vec<String>,
-    word: &str,
-    dice: &mut Dice,
-) -> Result<(), AllocError> {
-    match dice.below(8) {
-        0 => Ok(()),
-        1 => {
-            put(alloc, texts, word)?;
-            put(alloc, texts, word)
-        }
-        2 => put(alloc, texts, odd_word(dice)),
-        3 => {
-            put(alloc, texts, odd_word(dice))?;
-            put(alloc, texts, word)
-        }
-        _ => put_value(alloc, texts, word, dice),
-    }
-}
-
-// The word, changed in one of four cases where words are.
+// The word as it is, or, in one of four cases where words are changed, left out, doubled, after
+// another one or in its place, or with another value.
 fn put_word(
     alloc: Global,
     texts: &mut Vec<String>,
@@ -169,29 +136,58 @@ fn put_word(
     are_changed: bool,
     dice: &mut Dice,
 ) -> Result<(), AllocError> {
-    if are_changed && dice.is_one_in(4) {
-        put_changed(alloc, texts, word, dice)
-    } else {
-        put(alloc, texts, word)
+    if !are_changed || dice.below(4) > 0 {
+        return put(alloc, texts, word);
     }
+    let way = dice.below(8);
+    if way == 0 {
+        return Ok(());
+    }
+    if way >= 4 {
+        return put_value(alloc, texts, word, dice);
+    }
+    let first = if way == 1 { word } else { dice.text(ODD_WORDS) };
+    put(alloc, texts, first)?;
+    if way == 2 {
+        return Ok(());
+    }
+    put(alloc, texts, word)
 }
 
-fn put_words(
+/// Puts the words of a run, of its check or of another one; in one of four cases some of them are
+/// changed.
+pub fn put_words(
     alloc: Global,
     texts: &mut Vec<String>,
     world: &World,
     dice: &mut Dice,
 ) -> Result<(), AllocError> {
-    let are_changed = dice.is_one_in(4);
-    for word in line(world, dice).split(' ') {
+    let are_changed = dice.below(4) == 0;
+    let line = match dice.below(12) {
+        0 | 1 | 2 | 3 => world.words,
+        4 | 5 | 6 | 7 => world.check,
+        8 => "check sample=s out=o map=n record=q",
+        9 => "upgrade map=m record=r newmap=n newrecord=q",
+        _ => dice.text(LINES),
+    };
+    for word in line.split(' ') {
         put_word(alloc, texts, word, are_changed, dice)?;
     }
     Ok(())
 }
 
-/// Words of a run, of its check or of another one; some of them changed, in one of four cases.
-pub fn texts(alloc: Global, world: &World, dice: &mut Dice) -> Result<Vec<String>, AllocError> {
-    let mut texts = Vec::new(alloc);
-    put_words(alloc, &mut texts, world, dice)?;
-    Ok(texts)
+/// Adds words to a line, each with a blank after it: all of them, or those alone that have `check`
+/// look at what a run left.
+pub fn add_line(line: &mut String, texts: &[String], are_all: bool) -> Result<(), AllocError> {
+    for text in texts.iter() {
+        let key = match text.as_str().split_once('=') {
+            Some((key, _)) => key,
+            None => "",
+        };
+        if are_all || key.starts_with("sample") || OF_CHECK.contains(&key) {
+            line.push_str(text.as_str())?;
+            line.push(' ')?;
+        }
+    }
+    Ok(())
 }

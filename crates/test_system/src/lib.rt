@@ -4,12 +4,12 @@
 #![tactic(auto)]
 
 #[cfg(test)]
+mod disk;
+#[cfg(test)]
+mod disk_grow;
+#[cfg(test)]
+mod disk_opened;
+#[cfg(test)]
+mod disk_runs;
+#[cfg(test)]
 mod expect;
-#[cfg(test)]
-mod folder;
-#[cfg(test)]
-mod links;
-#[cfg(test)]
-mod opened;
-#[cfg(test)]
-mod runs;

@@ -30,13 +30,11 @@ pub type Row<'a> = (&'a str, Step<'a>);
 
 fn gets(shelf: &mut RealShelf, name: &str, at: u64, count: usize, wanted: &[u8]) -> bool {
     let mut bytes = [0u8; 9];
-    match bytes.get_mut(..count) {
-        Some(into) => {
-            let n = shelf.get(name, at, into).ok();
-            n == Some(wanted.len()) && into.starts_with(wanted)
-        }
-        None => false,
-    }
+    let Some(into) = bytes.get_mut(..count) else {
+        return false;
+    };
+    let comes = matches!(shelf.get(name, at, into), Ok(n) if n == wanted.len());
+    comes & into.starts_with(wanted)
 }
 
 // Takes a step, and says whether it went well.
@@ -65,10 +63,12 @@ fn wrong_step_by(rt: &HostRuntime, shelf: &mut RealShelf, steps: &[Row]) -> Opti
     None
 }
 
-// (A function owns one value, and lends it: each place where a shelf ends is long to prove.)
+// (The end of a shelf is long to prove: `drop` has it proved by itself.)
 fn wrong_step_here(rt: &HostRuntime, steps: &[Row]) -> Result<Option<usize>, AllocError> {
     let mut shelf = RealShelf::new(*rt, rt.alloc())?;
-    Ok(wrong_step_by(rt, &mut shelf, steps))
+    let found = wrong_step_by(rt, &mut shelf, steps);
+    drop(shelf);
+    Ok(found)
 }
 
 // Makes a folder among the temporary files, and enters it: names are those of its files from then on.
@@ -90,7 +90,7 @@ fn wrong_step_in(
         return Ok(Some(steps.len()));
     }
     let found = wrong_step_here(rt, steps)?;
-    let is_left = env::set_current_dir(rt, "..").is_ok() && fs::remove_dir_all(rt, folder).is_ok();
+    let is_left = env::set_current_dir(rt, "..").is_ok() & fs::remove_dir_all(rt, folder).is_ok();
     Ok(if is_left { found } else { Some(steps.len()) })
 }
 

@@ -40,7 +40,9 @@ fn status_of(rt: &HostRuntime, line: &str) -> Result<u8, AllocError> {
     let mut out = Output::new(*rt);
     let mut err = ErrorOutput::new(*rt);
     let mut shelf = RealShelf::new(*rt, rt.alloc())?;
-    ran(rt.alloc(), line, &mut shelf, &mut out, &mut err)
+    let status = ran(rt.alloc(), line, &mut shelf, &mut out, &mut err);
+    drop(shelf);
+    status
 }
 
 /// Whether a run ends with this status, and leaves the first so many of its outputs whole and no other. The file `s`
@@ -59,6 +61,7 @@ pub fn grows(
         return false;
     };
     let has_ended = matches!(status_of(rt, line.as_str()), Ok(found) if found == status);
+    drop(line);
     let is_drawn = has_bytes(rt, out, PICTURE) == (whole > 0);
     let is_mapped = has_bytes(rt, map, MAP) == (whole > 1);
     let is_recorded = has_bytes(rt, record, RECORD) == (whole > 2);

@@ -2,12 +2,13 @@
 use crate::disk::{Row, Step, wrong_step};
 use crate::expect::expect_none;
 
-// A file that gets another name, one that loses its bytes, and then is removed.
-const WRITTEN_ON: &[Row<'static>] = &[
+const OPENED: &[Row<'static>] = &[
+    // One that it began gets another name.
     ("m", Step::Begin),
     ("m", Step::Add(b"abc")),
     ("m", Step::Rename("renamed")),
     ("m", Step::Add(b"def")),
+    // One loses its bytes, and then is removed.
     ("m", Step::Begin),
     ("m", Step::Add(b"abc")),
     ("m", Step::Put(b"")),
@@ -17,15 +18,7 @@ const WRITTEN_ON: &[Row<'static>] = &[
     ("m", Step::Add(b"ghi")),
     ("m", Step::IsGone),
     ("renamed", Step::Holds(b"abcdef")),
-];
-
-#[test]
-fn writes_on_in_the_file_that_it_began(rt: HostRuntime) {
-    expect_none(&rt, wrong_step(&rt, "began", WRITTEN_ON));
-}
-
-// Another file takes the name of one that was opened.
-const READ_ON: &[Row<'static>] = &[
+    // Another file takes the name of one that it reads.
     ("s", Step::Put(b"abcdef")),
     ("other", Step::Put(b"ABCDEF")),
     ("s", Step::Get(0, 3, b"abc")),
@@ -34,8 +27,8 @@ const READ_ON: &[Row<'static>] = &[
 ];
 
 #[test]
-fn reads_on_in_the_file_that_it_opened(rt: HostRuntime) {
-    expect_none(&rt, wrong_step(&rt, "opened", READ_ON));
+fn goes_on_in_the_files_that_it_opened(rt: HostRuntime) {
+    expect_none(&rt, wrong_step(&rt, "opened", OPENED));
 }
 
 // A system may give a file the number of one that is gone.

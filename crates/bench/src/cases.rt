@@ -4,19 +4,19 @@ ghost use Rattle.patch_picks.specs.Fitting.{HasPatch};
 ghost use Rattle.bench.specs.Sizes.{IsGrowthCase};
 
 use crate::boundaries::least_boundaries;
-use crate::clips::{clip_bytes, move_clip};
+use crate::clips::move_frames;
 use crate::growths::{GrowthCase, check_records, grow_often};
 use crate::loops::least_loops;
 use crate::merges::merge_often;
 use crate::networks::{solve_combs, solve_drawn, solve_grids, solve_ladders, solve_thin_grids};
 use crate::quilts::{quilt_often, transfer_often};
-use crate::record_files::{Way, cuts_of, move_records, strip_of};
+use crate::record_files::{Way, move_cuts, move_strip};
 use crate::samples::Texture;
 use patch_picks::Mode;
 use std::alloc::{AllocError, Global};
 
 /// What is run.
-#[derive(Clone, Copy, Drop)]
+#[derive(Drop)]
 pub enum Case {
     /// A little of everything.
     Quick,
@@ -113,13 +113,13 @@ const CASES: &[(&str, Case)] = &[
 ];
 
 /// The case of a name; of any other word it's that of no word.
-pub fn case_of(name: &str) -> Case {
+pub fn case_of(name: &str) -> &'static Case {
     for (known, case) in CASES.iter() {
         if *known == name {
-            return *case;
+            return case;
         }
     }
-    Case::Quick
+    &Case::Quick
 }
 
 const SUB: Mode = Mode::Sub {
@@ -166,7 +166,7 @@ fn growth_from(texture: Texture) -> GrowthCase
 }
 
 // The growth of a case.
-fn growth_of(case: Case) -> GrowthCase
+fn growth_of(case: &Case) -> GrowthCase
     ensures { IsGrowthCase result }
 {
     match case {
@@ -198,54 +198,38 @@ fn growth_of(case: Case) -> GrowthCase
     }
 }
 
-// Moves the record file of so many placements so often.
-fn move_cuts(alloc: Global, count: u32, way: Way, times: u32) -> Result<u64, AllocError> {
-    let cuts = cuts_of(alloc, count)?;
-    move_records(alloc, &cuts, way, times)
-}
-
-// Moves the record file of a block whose left strip has so many columns so often.
-fn move_strip(alloc: Global, columns: u16, way: Way, times: u32) -> Result<u64, AllocError> {
-    let strip = strip_of(alloc, columns)?;
-    move_records(alloc, &strip, way, times)
-}
-
 // The stream lines of clips of 640x360 pixels.
 const LINE_420: &[u8] = b"YUV4MPEG2 W640 H360 C420jpeg\n";
 
 const LINE_444: &[u8] = b"YUV4MPEG2 W640 H360 C444\n";
 
-// Moves the clip of a stream line, so many frames and so many bytes a frame so often.
-fn move_frames(
-    alloc: Global,
-    line: &[u8],
-    frames: u32,
-    planes: u32,
-    way: Way,
-    times: u32,
-) -> Result<u64, AllocError> {
-    let bytes = clip_bytes(alloc, line, frames, planes)?;
-    move_clip(alloc, &bytes, way, times)
+// A number of both, where neither ran out of memory. (Each way out of a long function costs as much
+// to prove as all that stands before it.)
+fn both(a: Result<u64, AllocError>, b: Result<u64, AllocError>) -> Result<u64, AllocError> {
+    Ok(a? ^ b?)
 }
 
 // A little of the files.
 fn run_files(alloc: Global) -> Result<u64, AllocError> {
-    let read = move_cuts(alloc, 2, Way::Read, 1)?;
-    let written = move_strip(alloc, 3, Way::Write, 1)?;
-    let copied = move_strip(alloc, 3, Way::Copy, 1)?;
-    let shown = move_frames(alloc, LINE_420, 2, 345600, Way::Read, 1)?;
-    let filmed = move_frames(alloc, LINE_420, 2, 345600, Way::Write, 1)?;
-    Ok(read ^ written ^ copied ^ shown ^ filmed)
+    let number = move_cuts(alloc, 2, &Way::Read, 1);
+    let number = both(number, move_strip(alloc, 3, &Way::Write, 1));
+    let number = both(number, move_strip(alloc, 3, &Way::Copy, 1));
+    let number = both(
+        number,
+        move_frames(alloc, LINE_420, 2, 345600, &Way::Read, 1),
+    );
+    both(
+        number,
+        move_frames(alloc, LINE_420, 2, 345600, &Way::Write, 1),
+    )
 }
 
 // A little of the networks.
 fn run_networks(alloc: Global) -> Result<u64, AllocError> {
-    let solved = solve_grids(alloc, 8, 1)?;
-    let climbed = solve_ladders(alloc, 20, 1)?;
-    let thin = solve_thin_grids(alloc, 50, 1)?;
-    let drawn = solve_drawn(alloc, 60, 300, 1)?;
-    let combed = solve_combs(alloc, 5, 1)?;
-    Ok(solved ^ climbed ^ thin ^ drawn ^ combed)
+    let number = both(solve_grids(alloc, 8, 1), solve_ladders(alloc, 20, 1));
+    let number = both(number, solve_thin_grids(alloc, 50, 1));
+    let number = both(number, solve_drawn(alloc, 60, 300, 1));
+    both(number, solve_combs(alloc, 5, 1))
 }
 
 // A little of everything.
@@ -258,20 +242,21 @@ fn run_quick(alloc: Global) -> Result<u64, AllocError> {
         mode: SUB,
         rounds: 3,
     };
-    let grown = grow_often(alloc, &small, 1)?;
-    let checked = check_records(alloc, &small, 1)?;
-    let looped = least_loops(alloc, 12, 9, 1)?;
-    let bounded = least_boundaries(alloc, 16, 5, 1)?;
-    let quilted = quilt_often(alloc, Texture::Noise, 80, 1)?;
-    let painted = transfer_often(alloc, 40, 48, 1)?;
-    let merged = merge_often(alloc, 24, 1)?;
-    let solved = run_networks(alloc)?;
-    let moved = run_files(alloc)?;
-    Ok(grown ^ checked ^ looped ^ bounded ^ quilted ^ painted ^ merged ^ solved ^ moved)
+    let number = both(
+        grow_often(alloc, &small, 1),
+        check_records(alloc, &small, 1),
+    );
+    let number = both(number, least_loops(alloc, 12, 9, 1));
+    let number = both(number, least_boundaries(alloc, 16, 5, 1));
+    let number = both(number, quilt_often(alloc, Texture::Noise, 80, 1));
+    let number = both(number, transfer_often(alloc, 40, 48, 1));
+    let number = both(number, merge_often(alloc, 24, 1));
+    let number = both(number, run_networks(alloc));
+    both(number, run_files(alloc))
 }
 
 /// Runs a case so often, and gives a number of what comes out.
-pub fn run_case(alloc: Global, case: Case, times: u32) -> Result<u64, AllocError> {
+pub fn run_case(alloc: Global, case: &Case, times: u32) -> Result<u64, AllocError> {
     match case {
         Case::Quick => run_quick(alloc),
         Case::Check | Case::CheckRandom => check_records(alloc, &growth_of(case), times),

@@ -28,18 +28,6 @@ fn add_frames(frames: u32, planes: u32, bytes: &mut Vec<u8>) -> Result<(), Alloc
     Ok(())
 }
 
-/// A clip of so many frames of so many bytes, with this stream line.
-pub fn clip_bytes(
-    alloc: Global,
-    line: &[u8],
-    frames: u32,
-    planes: u32,
-) -> Result<Vec<u8>, AllocError> {
-    let mut bytes = Vec::from_slice(alloc, line)?;
-    add_frames(frames, planes, &mut bytes)?;
-    Ok(bytes)
-}
-
 fn clip_in(alloc: Global, shelf: &mut SureShelf) -> Result<Clip, AllocError>
     ensures { IfOk result (IsSoundClip MOST) }
 {
@@ -76,25 +64,51 @@ fn write(alloc: Global, clip: &Clip, shelf: &mut SureShelf) -> Result<(), AllocE
     Ok(())
 }
 
+fn write_all(
+    alloc: Global,
+    clip: &Clip,
+    shelf: &mut SureShelf,
+    times: u32,
+) -> Result<(), AllocError>
+    requires { IsSoundClip MOST clip.now }
+{
+    for _time in 0..times {
+        write(alloc, clip, shelf)?;
+    }
+    Ok(())
+}
+
 // Reads once, and writes so often. The number is of the bytes written.
 fn write_often(alloc: Global, shelf: &mut SureShelf, times: u32) -> Result<u64, AllocError> {
     let clip = clip_in(alloc, shelf)?;
-    for _time in 0..times {
-        write(alloc, &clip, shelf)?;
-    }
+    let written = write_all(alloc, &clip, shelf, times);
+    drop(clip);
+    written?;
     match shelf.file("out") {
         Some(bytes) => Ok(bytes.len() as u64),
         None => Ok(0),
     }
 }
 
-/// Reads or writes a clip so often.
-pub fn move_clip(alloc: Global, bytes: &[u8], way: Way, times: u32) -> Result<u64, AllocError> {
+/// Reads or writes so often a clip of so many frames of so many bytes, with this stream line.
+pub fn move_frames(
+    alloc: Global,
+    line: &[u8],
+    frames: u32,
+    planes: u32,
+    way: &Way,
+    times: u32,
+) -> Result<u64, AllocError> {
+    let mut bytes = Vec::from_slice(alloc, line)?;
+    add_frames(frames, planes, &mut bytes)?;
     let room = bytes.len().saturating_mul(2).saturating_add(64);
     let mut shelf = SureShelf::make(alloc, room)?;
-    shelf.put_file("clip", bytes);
-    match way {
+    shelf.put_file("clip", &bytes);
+    drop(bytes);
+    let number = match way {
         Way::Write => write_often(alloc, &mut shelf, times),
         _ => read_often(alloc, &mut shelf, times),
-    }
+    };
+    drop(shelf);
+    number
 }

@@ -15,7 +15,7 @@ use patch_picks::Mode;
 use std::alloc::{AllocError, Global};
 
 /// A growth: the texture and the side of its sample, and what is grown of it.
-#[derive(Clone, Copy, Drop)]
+#[derive(Drop)]
 pub struct GrowthCase {
     pub texture: Texture,
     pub sample: u32,

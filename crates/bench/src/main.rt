@@ -23,27 +23,18 @@ mod samples;
 use cases::{Case, case_of, run_case};
 use std::{env, io};
 
-// The case that a word names; a little of everything where there is no word.
-fn case_named(word: Option<String>) -> Case {
-    match word {
+// The case that is run, and how often: a little of everything where there is no word, and once.
+fn asked(rt: &HostRuntime) -> io::Result<(&'static Case, u32)> {
+    let mut words = env::args(rt)?.skip(1);
+    let case = match words.next() {
         Some(word) => case_of(word.as_str()),
-        None => Case::Quick,
-    }
-}
-
-// How often a word says that the case is run.
-fn times_of(word: Option<String>) -> u32 {
-    match word {
+        None => &Case::Quick,
+    };
+    let times = match words.next() {
         Some(word) => word.as_str().parse::<u32>().unwrap_or(1),
         None => 1,
-    }
-}
-
-// The case that is run, and how often.
-fn asked(rt: &HostRuntime) -> io::Result<(Case, u32)> {
-    let mut words = env::args(rt)?.skip(1);
-    let case = case_named(words.next());
-    Ok((case, times_of(words.next())))
+    };
+    Ok((case, times))
 }
 
 fn main(rt: HostRuntime) -> io::Result<()> {

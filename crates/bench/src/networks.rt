@@ -41,6 +41,15 @@ fn join(network: &mut Network, from: u32, to: u32, most: u32)
     });
 }
 
+// Solves a network so often. The number is the value of its flow.
+fn solve_often(alloc: Global, network: &Network, times: u32) -> Result<u64, AllocError> {
+    let mut number = 0u64;
+    for _time in 0..times {
+        number = solve(alloc, network)?.value;
+    }
+    Ok(number)
+}
+
 // The columns of a grid.
 const COLUMNS: u32 = 128;
 
@@ -68,8 +77,8 @@ fn join_cell(network: &mut Network, rows: u32, cell: u32)
     }
 }
 
-// A grid of so many rows whose pipes look drawn.
-fn grid_of(alloc: Global, rows: u32) -> Result<Network, AllocError>
+/// Solves so often a grid of so many rows whose pipes look drawn.
+pub fn solve_grids(alloc: Global, rows: u32, times: u32) -> Result<u64, AllocError>
     requires { rows ≤ MOST_ROWS }
 {
     let cells = rows * COLUMNS;
@@ -77,7 +86,7 @@ fn grid_of(alloc: Global, rows: u32) -> Result<Network, AllocError>
     for cell in 0..cells {
         join_cell(&mut network, rows, cell);
     }
-    Ok(network)
+    solve_often(alloc, &network, times)
 }
 
 // Adds a rung: the pipe across, and those of both rails to the rung before.
@@ -94,16 +103,16 @@ fn join_rung(network: &mut Network, rung: u32)
     join(network, left + 1, left - 1, WIDE);
 }
 
-// A ladder: from the source one rail leads up, and the other down to the sink. Each rung carries 1, so that each
-// path is longer than the one before.
-fn ladder_of(alloc: Global, rungs: u32) -> Result<Network, AllocError>
+/// Solves a ladder so often: from the source one rail leads up, and the other down to the sink. Each rung carries 1, so
+/// that each path is longer than the one before.
+pub fn solve_ladders(alloc: Global, rungs: u32, times: u32) -> Result<u64, AllocError>
     requires { rungs ≤ MOST_RUNGS }
 {
     let mut network = Network::make(alloc, 2 * rungs + 2, 0, 1, 3 * rungs as usize)?;
     for rung in 0..rungs {
         join_rung(&mut network, rung);
     }
-    Ok(network)
+    solve_often(alloc, &network, times)
 }
 
 // The rails of a long thin grid.
@@ -133,8 +142,8 @@ fn join_rail(network: &mut Network, steps: u32, cell: u32)
     }
 }
 
-// A grid of a few rails and so many steps, whose pipes look drawn.
-fn thin_grid_of(alloc: Global, steps: u32) -> Result<Network, AllocError>
+/// Solves so often a grid of a few rails and so many steps, whose pipes look drawn.
+pub fn solve_thin_grids(alloc: Global, steps: u32, times: u32) -> Result<u64, AllocError>
     requires { steps ≤ MOST_STEPS }
 {
     let cells = steps * RAILS;
@@ -142,7 +151,7 @@ fn thin_grid_of(alloc: Global, steps: u32) -> Result<Network, AllocError>
     for cell in 0..cells {
         join_rail(&mut network, steps, cell);
     }
-    Ok(network)
+    solve_often(alloc, &network, times)
 }
 
 // Adds a pipe from the source to a node and one from a node to the sink, which look drawn.
@@ -168,9 +177,9 @@ fn join_ends(network: &mut Network, nodes: u32, pair: u32)
     );
 }
 
-// So many pipes between nodes, a tenth as many from the source and as many to the sink, all with ends and
-// capacities that look drawn.
-fn drawn_of(alloc: Global, nodes: u32, pipes: u32) -> Result<Network, AllocError>
+/// Solves so often a network of so many pipes between nodes, a tenth as many from the source and as many to the sink, all
+/// with ends and capacities that look drawn.
+pub fn solve_drawn(alloc: Global, nodes: u32, pipes: u32, times: u32) -> Result<u64, AllocError>
     requires some { 1 ≤ nodes }
     requires few { nodes ≤ MOST_DRAWN }
     requires pipes { pipes ≤ MOST_DRAWN }
@@ -186,7 +195,7 @@ fn drawn_of(alloc: Global, nodes: u32, pipes: u32) -> Result<Network, AllocError
         let to = mixed(i, 11) % nodes + 2;
         join(&mut network, from, to, mixed(i, 12) % 1000);
     }
-    Ok(network)
+    solve_often(alloc, &network, times)
 }
 
 // How many takers each giver of a comb is joined to.
@@ -205,8 +214,9 @@ fn join_giver(network: &mut Network, givers: u32, giver: u32)
     join(network, givers + giver + 2, 1, mixed(giver, 14) % 1000);
 }
 
-// A comb: givers that the source joins, each joined to the takers from its own on, all of which join the sink.
-fn comb_of(alloc: Global, givers: u32) -> Result<Network, AllocError>
+/// Solves a comb so often: givers that the source joins, each joined to the takers from its own on, all of which join the
+/// sink.
+pub fn solve_combs(alloc: Global, givers: u32, times: u32) -> Result<u64, AllocError>
     requires some { 1 ≤ givers }
     requires few { givers ≤ MOST_GIVERS }
 {
@@ -226,52 +236,5 @@ fn comb_of(alloc: Global, givers: u32) -> Result<Network, AllocError>
             mixed(i, 15) % 1000,
         );
     }
-    Ok(network)
-}
-
-// Solves a network so often. The number is the value of its flow.
-fn solve_often(alloc: Global, network: &Network, times: u32) -> Result<u64, AllocError> {
-    let mut number = 0u64;
-    for _time in 0..times {
-        number = solve(alloc, network)?.value;
-    }
-    Ok(number)
-}
-
-/// Solves a grid so often.
-pub fn solve_grids(alloc: Global, rows: u32, times: u32) -> Result<u64, AllocError>
-    requires { rows ≤ MOST_ROWS }
-{
-    solve_often(alloc, &grid_of(alloc, rows)?, times)
-}
-
-/// Solves a ladder so often.
-pub fn solve_ladders(alloc: Global, rungs: u32, times: u32) -> Result<u64, AllocError>
-    requires { rungs ≤ MOST_RUNGS }
-{
-    solve_often(alloc, &ladder_of(alloc, rungs)?, times)
-}
-
-/// Solves a grid of four rails so often.
-pub fn solve_thin_grids(alloc: Global, steps: u32, times: u32) -> Result<u64, AllocError>
-    requires { steps ≤ MOST_STEPS }
-{
-    solve_often(alloc, &thin_grid_of(alloc, steps)?, times)
-}
-
-/// Solves a network that looks drawn so often.
-pub fn solve_drawn(alloc: Global, nodes: u32, pipes: u32, times: u32) -> Result<u64, AllocError>
-    requires some { 1 ≤ nodes }
-    requires few { nodes ≤ MOST_DRAWN }
-    requires pipes { pipes ≤ MOST_DRAWN }
-{
-    solve_often(alloc, &drawn_of(alloc, nodes, pipes)?, times)
-}
-
-/// Solves a comb so often.
-pub fn solve_combs(alloc: Global, givers: u32, times: u32) -> Result<u64, AllocError>
-    requires some { 1 ≤ givers }
-    requires few { givers ≤ MOST_GIVERS }
-{
-    solve_often(alloc, &comb_of(alloc, givers)?, times)
+    solve_often(alloc, &network, times)
 }

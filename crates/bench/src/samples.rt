@@ -100,8 +100,8 @@ fn byte_at(texture: Texture, x: u32, y: u32, channel: u32) -> u8 {
     }
 }
 
-// The volume of a size with 3 bytes a cell. The frames of a clip show a texture that moves.
-fn volume_of(alloc: Global, texture: Texture, size: Size) -> Result<Volume, AllocError>
+/// The volume of a size with 3 bytes a cell. The frames of a clip show a texture that moves.
+pub fn volume_of(alloc: Global, texture: Texture, size: Size) -> Result<Volume, AllocError>
     requires small { IsSmall size }
     ensures volume { IfOk result (λ v. IsOnePart v × (v.size ≡ size)) }
     ensures samples { IfOk result (λ v. v.k ≡ 3) }
@@ -131,24 +131,6 @@ pub fn sample_of(alloc: Global, texture: Texture, side: u32) -> Result<Volume, A
             w: side,
             h: side,
             f: 1,
-        },
-    )
-}
-
-/// A clip of so many frames of 32x32 cells, of lumps.
-pub fn clip_of(alloc: Global, frames: u32) -> Result<Volume, AllocError>
-    requires some { 1 ≤ frames }
-    requires few { frames ≤ 256 }
-    ensures { IfOk result (λ clip. IsOnePart clip
-        × (clip.size ≡ record { w = 32; h = 32; f = frames })) }
-{
-    volume_of(
-        alloc,
-        Texture::Lumps,
-        Size {
-            w: 32,
-            h: 32,
-            f: frames,
         },
     )
 }

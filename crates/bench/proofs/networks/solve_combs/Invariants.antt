@@ -1,5 +1,5 @@
 use Rattle.std.proofs.Common.{◌≡◌, ◌+◌, ◌*◌, ◌≤◌}
-use Rattle.bench.proofs.networks.comb_of.Given as goal
+use Rattle.bench.proofs.networks.solve_combs.Given as goal
 
 abbrev pub invariant-loop-giver : goal.invariant-loop-giver
 invariant-loop-giver l = record {

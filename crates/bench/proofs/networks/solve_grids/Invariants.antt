@@ -1,6 +1,6 @@
 use Rattle.std.proofs.Common.{◌≡◌, ◌+◌, ◌*◌, ◌≤◌}
 use Rattle.bench.specs.declared.networks.TheConstants.{COLUMNS}
-use Rattle.bench.proofs.networks.grid_of.Given as goal
+use Rattle.bench.proofs.networks.solve_grids.Given as goal
 
 abbrev pub invariant-loop-cell : goal.invariant-loop-cell
 invariant-loop-cell l = record {

@@ -9,6 +9,17 @@ pub fn expect_none(rt: &impl Abort, found: Result<Option<usize>, AllocError>) {
     assert!(rt; is_none, "{found:?}");
 }
 
+/// The same of a table that is gone through without a store.
+pub fn expect_no_row(rt: &impl Abort, found: Option<usize>) {
+    assert!(rt; found.is_none(), "{found:?}");
+}
+
+/// Asserts that nothing is wrong of rows with several lines each: what was found else are the numbers of a row and of
+/// its line.
+pub fn expect_no_pair(rt: &impl Abort, found: Option<(usize, usize)>) {
+    assert!(rt; found.is_none(), "{found:?}");
+}
+
 /// Asserts that all is as expected.
 pub fn expect_true(rt: &impl Abort, found: Result<bool, AllocError>) {
     let is_true = matches!(found, Ok(true));

@@ -1,11 +1,13 @@
-//! Files and words that come in, and the lines and files that small runs leave: worked examples to the byte. No clause says
-//! what they show: that calls succeed while there is memory, and that the definitions give the bytes and the numbers that
-//! were spelled by hand from grammars and rules, files that other programs wrote, or the numbers of a program that is no
-//! part of weave.
+//! Files and words that come in, and the lines and files that small runs leave: worked examples to
+//! the byte. No clause says what they show: that calls succeed while there is memory, and that the
+//! definitions give the bytes and the numbers that were spelled by hand from grammars and rules,
+//! files that other programs wrote, or the numbers of a program that is no part of weave.
 //!
 //! README.md says what each module tries.
 #![tactic(auto)]
 
+#[cfg(test)]
+mod answers;
 #[cfg(test)]
 mod blocks;
 #[cfg(test)]
@@ -13,19 +15,15 @@ mod claims;
 #[cfg(test)]
 mod clips;
 #[cfg(test)]
+mod copies;
+#[cfg(test)]
 mod cuts;
 #[cfg(test)]
 mod expect;
 #[cfg(test)]
 mod files;
 #[cfg(test)]
-mod further;
-#[cfg(test)]
 mod jobs;
-#[cfg(test)]
-mod lines;
-#[cfg(test)]
-mod looped;
 #[cfg(test)]
 mod map_files;
 #[cfg(test)]
@@ -35,13 +33,9 @@ mod numbered_cuts;
 #[cfg(test)]
 mod numbers;
 #[cfg(test)]
-mod of_turns;
-#[cfg(test)]
 mod pictures;
 #[cfg(test)]
-mod quilting;
-#[cfg(test)]
-mod reading;
+mod readers;
 #[cfg(test)]
 mod records;
 #[cfg(test)]
@@ -49,7 +43,9 @@ mod reports;
 #[cfg(test)]
 mod rows;
 #[cfg(test)]
-mod several;
+mod runs;
+#[cfg(test)]
+mod samples;
 #[cfg(test)]
 mod shelves;
 #[cfg(test)]
@@ -57,10 +53,8 @@ mod standing;
 #[cfg(test)]
 mod tables;
 #[cfg(test)]
-mod targets;
-#[cfg(test)]
 mod trials;
 #[cfg(test)]
-mod upgraded;
-#[cfg(test)]
 mod walk;
+#[cfg(test)]
+mod words;

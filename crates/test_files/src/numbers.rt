@@ -1,56 +1,71 @@
-// The numbers of a file, in their order, from the version on. A choice is one number, whose first binary digit is
-// its first cell; a flow is two.
-use cells::{At, Size, Sizes};
+// The numbers of a file, in their order; of maps and records from the version on. A choice is one
+// number, whose first binary digit is its first cell; a flow is two.
+use cells::{At, Size, Sizes, Volume};
 use cert_file::{BlockRecord, BoundaryRecord, CutRecord, Head, RecordFile, Taps, Version};
-use map_canvas::{Entry, Map};
+use map_canvas::Entry;
 use source_map::MapFile;
-use std::alloc::{AllocError, Global};
+use std::alloc::AllocError;
+use y4m_clip::{Clip, SpaceKind};
 
-fn add_size(size: Size, numbers: &mut Vec<i128>) -> Result<(), AllocError> {
-    numbers.push(i128::from(size.w))?;
-    numbers.push(i128::from(size.h))?;
-    numbers.push(i128::from(size.f))?;
-    Ok(())
-}
-
-fn add_place(place: At, numbers: &mut Vec<i128>) -> Result<(), AllocError> {
-    numbers.push(i128::from(place.x))?;
-    numbers.push(i128::from(place.y))?;
-    numbers.push(i128::from(place.f))?;
+fn add_all<T: Copy + Into<i128>>(list: &[T], numbers: &mut Vec<i128>) -> Result<(), AllocError> {
+    for number in list {
+        numbers.push((*number).into())?;
+    }
     Ok(())
 }
 
 fn add_sizes(sizes: &Sizes, numbers: &mut Vec<i128>) -> Result<(), AllocError> {
     for i in 0..sizes.len() {
-        add_size(sizes.at(i + 1), numbers)?;
+        let Size { w, h, f } = sizes.at(i + 1);
+        numbers.extend_from_slice(&[i128::from(w), i128::from(h), i128::from(f)])?;
     }
     Ok(())
 }
 
-fn add_version(version: Version, numbers: &mut Vec<i128>) -> Result<(), AllocError> {
-    numbers.push(match version {
-        Version::One => 1,
-        Version::Two => 2,
-    })?;
-    Ok(())
+/// The numbers of a form, how many bytes a cell has, how many parts there are, their sizes, and the
+/// bytes.
+pub fn add_volume(
+    form: &[i128],
+    volume: &Volume,
+    numbers: &mut Vec<i128>,
+) -> Result<(), AllocError> {
+    let sizes = volume.sizes();
+    numbers.extend_from_slice(form)?;
+    numbers.extend_from_slice(&[i128::from(volume.samples()), i128::from(sizes.len())])?;
+    add_sizes(&sizes, numbers)?;
+    add_all(volume.bytes(), numbers)
 }
 
-fn add_samples(
+/// A clip's colour kind, how many tags it has, and its volume.
+pub fn add_clip(clip: &Clip, numbers: &mut Vec<i128>) -> Result<(), AllocError> {
+    let space = match clip.form.space {
+        SpaceKind::Mono => 400,
+        SpaceKind::C444 => 444,
+        SpaceKind::C422 => 422,
+        SpaceKind::C411 => 411,
+        SpaceKind::C420 => 420,
+    };
+    let tags = clip.form.tags.as_slice().len() as i128;
+    add_volume(&[space, tags], &clip.volume, numbers)
+}
+
+// The version and the kind, the output, and the samples with their number in version 2.
+fn add_head(
     version: Version,
+    kind: i128,
+    output: Size,
     samples: &Sizes,
     numbers: &mut Vec<i128>,
 ) -> Result<(), AllocError> {
-    if version == Version::Two {
-        numbers.push(i128::from(samples.len()))?;
-    }
+    let (number, count) = match version {
+        Version::One => (1, 5),
+        Version::Two => (2, 6),
+    };
+    let Size { w, h, f } = output;
+    let (w, h, f) = (i128::from(w), i128::from(h), i128::from(f));
+    let head = [number, kind, w, h, f, i128::from(samples.len())];
+    numbers.extend_from_slice(&head[..count])?;
     add_sizes(samples, numbers)
-}
-
-fn add_head(head: &Head, kind: i128, numbers: &mut Vec<i128>) -> Result<(), AllocError> {
-    add_version(head.version, numbers)?;
-    numbers.push(kind)?;
-    add_size(head.output, numbers)?;
-    add_samples(head.version, &head.samples, numbers)
 }
 
 // A source, in version 2 with the number of its sample.
@@ -61,13 +76,20 @@ fn add_source(
     numbers: &mut Vec<i128>,
 ) -> Result<(), AllocError> {
     let Some(there) = samples.part_of(source) else {
-        numbers.push(-1)?;
-        return Ok(());
+        return numbers.extend_from_slice(&[-1]);
     };
-    if version == Version::Two {
-        numbers.push(i128::from(there.part))?;
-    }
-    add_place(there.at, numbers)
+    let first = match version {
+        Version::One => 1,
+        Version::Two => 0,
+    };
+    let At { x, y, f } = there.at;
+    let place = [
+        i128::from(there.part),
+        i128::from(x),
+        i128::from(y),
+        i128::from(f),
+    ];
+    numbers.extend_from_slice(&place[first..])
 }
 
 fn number_of(choice: &[bool]) -> i128 {
@@ -79,13 +101,19 @@ fn number_of(choice: &[bool]) -> i128 {
 }
 
 fn add_cut(head: &Head, cut: &CutRecord, numbers: &mut Vec<i128>) -> Result<(), AllocError> {
-    add_place(cut.placement.rect.corner, numbers)?;
-    add_size(cut.placement.rect.size, numbers)?;
+    let (At { x, y, f }, size) = (cut.placement.rect.corner, cut.placement.rect.size);
+    numbers.extend_from_slice(&[
+        i128::from(x),
+        i128::from(y),
+        i128::from(f),
+        i128::from(size.w),
+        i128::from(size.h),
+        i128::from(size.f),
+    ])?;
     add_source(head.version, &head.samples, cut.placement.from, numbers)?;
     numbers.push(number_of(cut.choice.as_slice()))?;
     for flow in cut.flows.as_slice() {
-        numbers.push(i128::from(flow.x))?;
-        numbers.push(i128::from(flow.y))?;
+        numbers.extend_from_slice(&[i128::from(flow.x), i128::from(flow.y)])?;
     }
     Ok(())
 }
@@ -94,27 +122,6 @@ fn add_cuts(head: &Head, cuts: &[CutRecord], numbers: &mut Vec<i128>) -> Result<
     numbers.push(cuts.len() as i128)?;
     for cut in cuts {
         add_cut(head, cut, numbers)?;
-    }
-    Ok(())
-}
-
-fn add_all_16(list: &[u16], numbers: &mut Vec<i128>) -> Result<(), AllocError> {
-    for number in list {
-        numbers.push(i128::from(*number))?;
-    }
-    Ok(())
-}
-
-fn add_all_32(list: &[u32], numbers: &mut Vec<i128>) -> Result<(), AllocError> {
-    for number in list {
-        numbers.push(i128::from(*number))?;
-    }
-    Ok(())
-}
-
-fn add_all_64(list: &[u64], numbers: &mut Vec<i128>) -> Result<(), AllocError> {
-    for number in list {
-        numbers.push(i128::from(*number))?;
     }
     Ok(())
 }
@@ -130,29 +137,30 @@ fn add_boundary(
     let path = boundary.path.as_slice();
     let sums = boundary.sums.as_slice();
     numbers.push((sums.len() / path.len().max(1)) as i128)?;
-    add_all_16(path, numbers)?;
-    add_all_32(sums, numbers)
+    add_all(path, numbers)?;
+    add_all(sums, numbers)
 }
 
-// Which boundaries a block has: 1 for the left one, and 2 for the top one.
-fn flags_of(block: &BlockRecord) -> i128 {
-    match (block.left.is_some(), block.top.is_some()) {
+// A block's box, its source, and which boundaries it has: 1 for the left one, 2 for the top one.
+// Then these.
+fn add_block(block: &BlockRecord, numbers: &mut Vec<i128>) -> Result<(), AllocError> {
+    let flags = match (block.left.is_some(), block.top.is_some()) {
         (false, false) => 0,
         (true, false) => 1,
         (false, true) => 2,
         (true, true) => 3,
-    }
-}
-
-fn add_block(block: &BlockRecord, numbers: &mut Vec<i128>) -> Result<(), AllocError> {
+    };
     let rect = &block.placement.rect;
-    numbers.push(i128::from(rect.corner.x))?;
-    numbers.push(i128::from(rect.corner.y))?;
-    numbers.push(i128::from(rect.size.w))?;
-    numbers.push(i128::from(rect.size.h))?;
-    numbers.push(i128::from(block.placement.from.x))?;
-    numbers.push(i128::from(block.placement.from.y))?;
-    numbers.push(flags_of(block))?;
+    let from = &block.placement.from;
+    numbers.extend_from_slice(&[
+        i128::from(rect.corner.x),
+        i128::from(rect.corner.y),
+        i128::from(rect.size.w),
+        i128::from(rect.size.h),
+        i128::from(from.x),
+        i128::from(from.y),
+        flags,
+    ])?;
     add_boundary(&block.left, numbers)?;
     add_boundary(&block.top, numbers)
 }
@@ -165,14 +173,6 @@ fn add_blocks(blocks: &[BlockRecord], numbers: &mut Vec<i128>) -> Result<(), All
     Ok(())
 }
 
-fn taps_of(taps: Taps) -> i128 {
-    match taps {
-        Taps::None0 => 0,
-        Taps::Two => 2,
-        Taps::Four => 4,
-    }
-}
-
 fn add_walk(
     taps: Taps,
     gap: u32,
@@ -180,41 +180,35 @@ fn add_walk(
     tables: &[u64],
     numbers: &mut Vec<i128>,
 ) -> Result<(), AllocError> {
-    numbers.push(walk.len() as i128)?;
-    numbers.push(taps_of(taps))?;
-    numbers.push(i128::from(gap))?;
-    add_all_16(walk, numbers)?;
-    add_all_64(tables, numbers)
+    let taps = match taps {
+        Taps::None0 => 0,
+        Taps::Two => 2,
+        Taps::Four => 4,
+    };
+    numbers.extend_from_slice(&[walk.len() as i128, taps, i128::from(gap)])?;
+    add_all(walk, numbers)?;
+    add_all(tables, numbers)
 }
 
-fn add_record(file: &RecordFile, numbers: &mut Vec<i128>) -> Result<(), AllocError> {
+/// The numbers of a record file.
+pub fn add_record(file: &RecordFile, numbers: &mut Vec<i128>) -> Result<(), AllocError> {
+    let (head, kind) = match file {
+        RecordFile::Cuts { head, .. } => (head, 0),
+        RecordFile::Blocks { head, .. } => (head, 1),
+        RecordFile::Walk { head, .. } => (head, 2),
+    };
+    add_head(head.version, kind, head.output, &head.samples, numbers)?;
     match file {
-        RecordFile::Cuts { head, cuts } => {
-            add_head(head, 0, numbers)?;
-            add_cuts(head, cuts.as_slice(), numbers)
-        }
-        RecordFile::Blocks { head, blocks } => {
-            add_head(head, 1, numbers)?;
-            add_blocks(blocks.as_slice(), numbers)
-        }
+        RecordFile::Cuts { cuts, .. } => add_cuts(head, cuts.as_slice(), numbers),
+        RecordFile::Blocks { blocks, .. } => add_blocks(blocks.as_slice(), numbers),
         RecordFile::Walk {
-            head,
             taps,
             gap,
             walk,
             tables,
-        } => {
-            add_head(head, 2, numbers)?;
-            add_walk(*taps, *gap, walk.as_slice(), tables.as_slice(), numbers)
-        }
+            ..
+        } => add_walk(*taps, *gap, walk.as_slice(), tables.as_slice(), numbers),
     }
-}
-
-/// The numbers of a record file.
-pub fn numbers_of_record(alloc: Global, file: &RecordFile) -> Result<Vec<i128>, AllocError> {
-    let mut numbers = Vec::new(alloc);
-    add_record(file, &mut numbers)?;
-    Ok(numbers)
 }
 
 fn add_sources(
@@ -225,58 +219,40 @@ fn add_sources(
 ) -> Result<(), AllocError> {
     for source in sources {
         let Some(source) = source.source() else {
-            numbers.push(-1)?;
-            return Ok(());
+            return numbers.extend_from_slice(&[-1]);
         };
         add_source(version, samples, source, numbers)?;
     }
     Ok(())
 }
 
-fn add_map(
-    version: Version,
-    samples: &Sizes,
-    map: &Map,
-    numbers: &mut Vec<i128>,
-) -> Result<(), AllocError> {
-    add_version(version, numbers)?;
-    numbers.push(0)?;
-    add_size(map.size(), numbers)?;
-    add_samples(version, samples, numbers)?;
-    add_sources(version, samples, map.sources(), numbers)
-}
-
-fn add_frames(
-    size: Size,
-    sample: Size,
-    frames: &[u16],
-    numbers: &mut Vec<i128>,
-) -> Result<(), AllocError> {
-    numbers.push(1)?;
-    numbers.push(1)?;
-    add_size(size, numbers)?;
-    add_size(sample, numbers)?;
-    add_all_16(frames, numbers)
-}
-
-fn add_file(file: &MapFile, numbers: &mut Vec<i128>) -> Result<(), AllocError> {
+/// The numbers of a map file.
+pub fn add_map(file: &MapFile, numbers: &mut Vec<i128>) -> Result<(), AllocError> {
     match file {
         MapFile::Cells {
             map,
             samples,
             version,
-        } => add_map(*version, samples, map, numbers),
+        } => {
+            add_head(*version, 0, map.size(), samples, numbers)?;
+            add_sources(*version, samples, map.sources(), numbers)
+        }
         MapFile::Frames {
             size,
             sample,
             frames,
-        } => add_frames(*size, *sample, frames.as_slice(), numbers),
+        } => {
+            numbers.extend_from_slice(&[
+                1,
+                1,
+                i128::from(size.w),
+                i128::from(size.h),
+                i128::from(size.f),
+                i128::from(sample.w),
+                i128::from(sample.h),
+                i128::from(sample.f),
+            ])?;
+            add_all(frames.as_slice(), numbers)
+        }
     }
-}
-
-/// The numbers of a map file.
-pub fn numbers_of_map(alloc: Global, file: &MapFile) -> Result<Vec<i128>, AllocError> {
-    let mut numbers = Vec::new(alloc);
-    add_file(file, &mut numbers)?;
-    Ok(numbers)
 }

@@ -1,4 +1,5 @@
-use crate::expect::{expect_no_row, expect_true};
+// Faults and reports, as they are said.
+use crate::expect::{expect_none, expect_true};
 use cells::Size;
 use job_words::{Key, WordFault};
 use shelf_core::{FormFault, MemSink, What};
@@ -204,29 +205,24 @@ const LINES: &[(Fault, u8, &str)] = &[
     ),
 ];
 
-// Whether this line is said of a fault.
-fn is_said(fault: &Fault, sink: &mut MemSink, line: &str) -> bool {
-    say_fault(fault, sink).is_ok() && sink.bytes() == line.as_bytes()
+// Whether this text is said of a fault, in full or where the sink fails.
+fn is_said(fault: &Fault, sink: &mut MemSink, text: &str, well: bool) -> bool {
+    say_fault(fault, sink).is_ok() == well && sink.bytes() == text.as_bytes()
 }
 
 fn has_line(alloc: Global, fault: &Fault, line: &str) -> bool {
     let mut sink = MemSink::new(alloc);
-    is_said(fault, &mut sink, line)
+    is_said(fault, &mut sink, line, true)
 }
 
 // The number of the first fault, from 0, that has another status or another line.
-fn wrong_line(alloc: Global, table: &[(Fault, u8, &str)]) -> Option<usize> {
-    for (i, (fault, number, line)) in table.iter().enumerate() {
+fn wrong_line(alloc: Global) -> Option<usize> {
+    for (i, (fault, number, line)) in LINES.iter().enumerate() {
         if !has_line(alloc, fault, line) || status(fault) != *number {
             return Some(i);
         }
     }
     None
-}
-
-#[test]
-fn lines(rt: HostRuntime) {
-    expect_no_row(&rt, wrong_line(rt.alloc(), LINES));
 }
 
 const SUMMARY: Summary = Summary::Grow {
@@ -238,35 +234,26 @@ const SUMMARY: Summary = Summary::Grow {
 
 const REPORT: &[u8] = b"grow 3x2x1\nplacements 6\nrounds 0\nseams 10710\n";
 
-fn is_reported(sink: &mut MemSink) -> bool {
-    report(&SUMMARY, sink).is_ok() && sink.bytes() == REPORT
-}
-
-fn is_report(alloc: Global) -> bool {
+fn is_reported(alloc: Global) -> bool {
     let mut sink = MemSink::new(alloc);
-    is_reported(&mut sink)
-}
-
-#[test]
-fn reports(rt: HostRuntime) {
-    assert!(rt; is_report(rt.alloc()));
+    let is_ok = report(&SUMMARY, &mut sink).is_ok();
+    is_ok & (sink.bytes() == REPORT)
 }
 
 const REPEATED: Fault = Fault::Words(WordFault::Repeated(3));
 
 // A sink that fails in mid-line has a prefix of the line, and the call reports it.
-fn leaves_prefix(sink: &mut MemSink) -> Result<bool, AllocError> {
-    sink.fail_at(4, 3)?;
-    let is_reported = say_fault(&REPEATED, sink).is_err() && sink.faults() == 1;
-    Ok(is_reported && sink.bytes() == b"weave: word 3: rep".as_slice())
-}
-
 fn is_prefix(alloc: Global) -> Result<bool, AllocError> {
     let mut sink = MemSink::new(alloc);
-    leaves_prefix(&mut sink)
+    sink.fail_at(4, 3)?;
+    let is_told = is_said(&REPEATED, &mut sink, "weave: word 3: rep", false);
+    Ok(is_told & (sink.faults() == 1))
 }
 
 #[test]
-fn failing_sink(rt: HostRuntime) {
-    expect_true(&rt, is_prefix(rt.alloc()));
+fn lines(rt: HostRuntime) {
+    let alloc = rt.alloc();
+    expect_none(&rt, Ok(wrong_line(alloc)));
+    expect_true(&rt, Ok(is_reported(alloc)));
+    expect_true(&rt, is_prefix(alloc));
 }

@@ -1,4 +1,5 @@
-// The sample of a number, against bytes that a program of another language made of ChaCha8's words.
+// The sample of a number, against bytes that a program of another language made of ChaCha8's
+// words.
 use crate::expect::expect_none;
 use cells::At;
 use outputs::trial_sample;
@@ -26,9 +27,9 @@ fn sum_of(bytes: &[u8]) -> u64 {
 fn wrong_sample(alloc: Global) -> Result<Option<usize>, AllocError> {
     for (i, (n, first, last, sum)) in SAMPLES.iter().enumerate() {
         let sample = trial_sample(alloc, *n)?;
-        let are_ends = sample.cell(FIRST) == Some(first.as_slice())
-            && sample.cell(LAST) == Some(last.as_slice());
-        if !are_ends || sum_of(sample.bytes()) != *sum {
+        let is_first = sample.cell(FIRST) == Some(first.as_slice());
+        let is_last = sample.cell(LAST) == Some(last.as_slice());
+        if !(is_first & is_last & (sum_of(sample.bytes()) == *sum)) {
             return Ok(Some(i));
         }
     }

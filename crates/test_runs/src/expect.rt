@@ -14,3 +14,9 @@ pub fn expect_true(rt: &impl Abort, found: Result<bool, AllocError>) {
     let is_true = matches!(found, Ok(true));
     assert!(rt; is_true, "{found:?}");
 }
+
+/// Asserts that nothing is wrong of a pair of tables: what was found else are its numbers in both.
+pub fn expect_no_pair(rt: &impl Abort, found: Result<Option<(usize, usize)>, AllocError>) {
+    let is_none = matches!(found, Ok(None));
+    assert!(rt; is_none, "{found:?}");
+}

@@ -23,6 +23,8 @@ mod clip_lines;
 #[cfg(test)]
 mod clips;
 #[cfg(test)]
+mod cut;
+#[cfg(test)]
 mod cut_clips;
 #[cfg(test)]
 mod cut_files;
@@ -37,17 +39,25 @@ mod cut_rules;
 #[cfg(test)]
 mod drawn;
 #[cfg(test)]
+mod equal;
+#[cfg(test)]
 mod expect;
 #[cfg(test)]
 mod failing;
+#[cfg(test)]
+mod failing_calls;
 #[cfg(test)]
 mod failing_merges;
 #[cfg(test)]
 mod ffmpeg;
 #[cfg(test)]
+mod files;
+#[cfg(test)]
 mod great_clips;
 #[cfg(test)]
 mod grown_clips;
+#[cfg(test)]
+mod hostile;
 #[cfg(test)]
 mod lifted;
 #[cfg(test)]
@@ -69,6 +79,8 @@ mod merging;
 #[cfg(test)]
 mod overlap;
 #[cfg(test)]
+mod pieces;
+#[cfg(test)]
 mod quilting;
 #[cfg(test)]
 mod reading;
@@ -84,6 +96,8 @@ mod refused_tiles;
 mod refused_transfers;
 #[cfg(test)]
 mod refused_upgrades;
+#[cfg(test)]
+mod said;
 #[cfg(test)]
 mod several;
 #[cfg(test)]
@@ -108,6 +122,8 @@ mod tiles;
 mod transferred;
 #[cfg(test)]
 mod trials;
+#[cfg(test)]
+mod trying;
 #[cfg(test)]
 mod turned_bounds;
 #[cfg(test)]

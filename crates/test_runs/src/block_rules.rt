@@ -1,8 +1,8 @@
-// Quilts in their forms, with the first rule that they break.
-use crate::blocks::STANDS;
-use crate::expect::expect_none;
-use crate::square::SQUARE_STANDS;
-use test_stage::{Verdict, wrong_verdict};
+// Quilts with the first rule that they break, and block records that aren't in their forms or pass
+// a limit.
+use crate::quilting::{SQUARE_STANDS, STANDS};
+use crate::tables::{Table, expect_table};
+use test_stage::Verdict;
 
 const BROKEN: Verdict<'static> = Verdict {
     status: 1,
@@ -70,8 +70,8 @@ const BLOCKS: &[Verdict<'static>] = &[
         report: "fails record 2 rule 10 place 1\n",
         ..BROKEN
     },
-    // Of two broken rules the first is reported: a source past the end of the sample before a column past the strip, that column before a
-    // sum, and a sum before a cost.
+    // Of two broken rules the first is reported: a source past the end of the sample before a
+    // column past the strip, that column before a sum, and a sum before a cost.
     Verdict {
         bytes: &[("r", 60, 1), ("r", 67, 2)],
         report: "fails record 2 rule 7 place 0\n",
@@ -95,13 +95,8 @@ const BLOCKS: &[Verdict<'static>] = &[
     },
 ];
 
-#[test]
-fn blocks(rt: HostRuntime) {
-    expect_none(&rt, wrong_verdict(rt.alloc(), BLOCKS));
-}
-
-// The left strip of the second block has its path at byte 66 and its sums of a row at 74, 82, 90 and 98; the top strip of the
-// fourth has its path at 218 and its sums at 226, 234, 242 and 250.
+// The left strip of the second block has its path at byte 66 and its sums of a row at 74, 82, 90
+// and 98; the top strip of the fourth has its path at 218 and its sums at 226, 234, 242 and 250.
 const STRIPS: &[Verdict<'static>] = &[
     // Other columns, which cost more.
     Verdict {
@@ -120,7 +115,8 @@ const STRIPS: &[Verdict<'static>] = &[
         report: "fails record 2 rule 9 place 2\n",
         ..SQUARE_BROKEN
     },
-    // Both strips of the fourth block are broken: the rules of the left one are all tried before those of the top one.
+    // Both strips of the fourth block are broken: the rules of the left one are all tried before
+    // those of the top one.
     Verdict {
         bytes: &[("r", 177, 1), ("r", 219, 2)],
         report: "fails record 4 rule 11 place 0\n",
@@ -138,11 +134,6 @@ const STRIPS: &[Verdict<'static>] = &[
         ..SQUARE_BROKEN
     },
 ];
-
-#[test]
-fn strips(rt: HostRuntime) {
-    expect_none(&rt, wrong_verdict(rt.alloc(), STRIPS));
-}
 
 const WHOLE_FILES: &[Verdict<'static>] = &[
     // A block record beside clips of the same sizes.
@@ -169,7 +160,69 @@ const WHOLE_FILES: &[Verdict<'static>] = &[
     },
 ];
 
+const FORM: Verdict<'static> = Verdict {
+    status: 3,
+    report: "",
+    ..STANDS
+};
+
+const FORMS: &[Verdict<'static>] = &[
+    Verdict {
+        bytes: &[("r", 9, 3)],
+        line: "weave: record: form at 9\n",
+        ..FORM
+    },
+    // A third block that isn't there.
+    Verdict {
+        bytes: &[("r", 37, 3)],
+        line: "weave: record: form at 76\n",
+        ..FORM
+    },
+    // A block without columns, and one without rows.
+    Verdict {
+        bytes: &[("r", 56, 0)],
+        line: "weave: record: form at 55\n",
+        ..FORM
+    },
+    Verdict {
+        bytes: &[("r", 58, 0)],
+        line: "weave: record: form at 57\n",
+        ..FORM
+    },
+    Verdict {
+        bytes: &[("r", 63, 4)],
+        line: "weave: record: form at 63\n",
+        ..FORM
+    },
+    // A strip without columns, and one that is wider than its block.
+    Verdict {
+        bytes: &[("r", 65, 0)],
+        line: "weave: record: form at 64\n",
+        ..FORM
+    },
+    Verdict {
+        bytes: &[("r", 65, 5)],
+        line: "weave: record: form at 64\n",
+        ..FORM
+    },
+    // A block of 65,535 cells on each axis, reported at the last number of its size.
+    Verdict {
+        bytes: &[
+            ("r", 55, 0xff),
+            ("r", 56, 0xff),
+            ("r", 57, 0xff),
+            ("r", 58, 0xff),
+        ],
+        status: 4,
+        line: "weave: limit records 4294836229 over 33554432\n",
+        ..FORM
+    },
+];
+
 #[test]
-fn whole_files(rt: HostRuntime) {
-    expect_none(&rt, wrong_verdict(rt.alloc(), WHOLE_FILES));
+fn rules(rt: HostRuntime) {
+    expect_table(&rt, rt.alloc(), Table::Verdicts(BLOCKS));
+    expect_table(&rt, rt.alloc(), Table::Verdicts(STRIPS));
+    expect_table(&rt, rt.alloc(), Table::Verdicts(WHOLE_FILES));
+    expect_table(&rt, rt.alloc(), Table::Verdicts(FORMS));
 }

@@ -1,9 +1,22 @@
-// Files that stand, and files in their forms with the first rule that they break. The second record
-// begins at byte 69 of its file: the column of its source at 81, its choice at 87, and a flow of 4
-// bytes for each pair from 88 on.
-use crate::cut_files::STANDS;
-use crate::expect::expect_none;
-use test_stage::{Verdict, wrong_verdict};
+// The files of two copies of four cells, which overlap by two. They stand, as they are and as they
+// are grown; in their forms they are said to break the first rule that they break. Files that
+// aren't in their forms, that pass a limit or that can't be read.
+use crate::tables::{Table, expect_table};
+use test_stage::{
+    FOUR_CELLS, Failing, File, Made, NO_CELL, OVERLAP_MAP, OVERLAP_PICTURE, OVERLAP_RECORD,
+    OVERLAPPING, Run, Verdict,
+};
+
+const STANDS: Verdict<'static> = Verdict {
+    sample: FOUR_CELLS,
+    picture: OVERLAP_PICTURE,
+    map: OVERLAP_MAP,
+    record: OVERLAP_RECORD,
+    bytes: &[],
+    status: 0,
+    report: "stands\n",
+    line: "",
+};
 
 const BROKEN: Verdict<'static> = Verdict {
     status: 1,
@@ -66,11 +79,6 @@ const RECORDS: &[Verdict<'static>] = &[
     },
 ];
 
-#[test]
-fn records(rt: HostRuntime) {
-    expect_none(&rt, wrong_verdict(rt.alloc(), RECORDS));
-}
-
 const WHOLE_FILES: &[Verdict<'static>] = &[
     // A picture of 4 x 1 cells and nothing more.
     Verdict {
@@ -94,8 +102,9 @@ const WHOLE_FILES: &[Verdict<'static>] = &[
         report: "fails record 0 rule 17 place 0\n",
         ..BROKEN
     },
-    // Of several broken rules the first is reported: that of whole files before those of records, those of the first record
-    // before those of the second, those of records before that of the map, and that before that of the picture.
+    // Of several broken rules the first is reported: that of whole files before those of records,
+    // those of the first record before those of the second, those of records before that of the
+    // map, and that before that of the picture.
     Verdict {
         bytes: &[("o", 9, b'4'), ("r", 87, 0xf0)],
         report: "fails record 0 rule 15 place 0\n",
@@ -124,7 +133,163 @@ const WHOLE_FILES: &[Verdict<'static>] = &[
     },
 ];
 
+const FORM: Verdict<'static> = Verdict {
+    status: 3,
+    report: "",
+    ..STANDS
+};
+
+const LIMIT: Verdict<'static> = Verdict {
+    status: 4,
+    report: "",
+    ..STANDS
+};
+
+const PICTURES_AND_MAPS: &[Verdict<'static>] = &[
+    Verdict {
+        bytes: &[("o", 7, b'0'), ("o", 8, b'0'), ("o", 9, b'9')],
+        line: "weave: out: value at 11\n",
+        ..FORM
+    },
+    // Of three files that break their forms the first is reported.
+    Verdict {
+        bytes: &[("o", 0, b'Q'), ("m", 0, 0), ("r", 0, 0)],
+        line: "weave: out: form at 0\n",
+        ..FORM
+    },
+    Verdict {
+        bytes: &[("m", 8, 9)],
+        line: "weave: map: form at 8\n",
+        ..FORM
+    },
+    // The first source's column.
+    Verdict {
+        bytes: &[("m", 35, 4)],
+        line: "weave: map: form at 34\n",
+        ..FORM
+    },
+    // An output of 4096 cells on each axis.
+    Verdict {
+        bytes: &[
+            ("m", 12, 0x10),
+            ("m", 13, 0),
+            ("m", 16, 0x10),
+            ("m", 17, 0),
+            ("m", 20, 0x10),
+            ("m", 21, 0),
+        ],
+        line: "weave: limit cells 68719476736 over 1048576\n",
+        ..LIMIT
+    },
+];
+
+const BROKEN_RECORDS: &[Verdict<'static>] = &[
+    // Kind 3.
+    Verdict {
+        bytes: &[("r", 9, 3)],
+        line: "weave: record: form at 9\n",
+        ..FORM
+    },
+    // The greatest count: the third record would begin at the end of the file.
+    Verdict {
+        bytes: &[
+            ("r", 34, 0xff),
+            ("r", 35, 0xff),
+            ("r", 36, 0xff),
+            ("r", 37, 0xff),
+        ],
+        line: "weave: record: form at 100\n",
+        ..FORM
+    },
+    // A box without columns.
+    Verdict {
+        bytes: &[("r", 45, 0)],
+        line: "weave: record: form at 44\n",
+        ..FORM
+    },
+    // An unused bit of the choice.
+    Verdict {
+        bytes: &[("r", 56, 0xf1)],
+        line: "weave: record: form at 56\n",
+        ..FORM
+    },
+    // A box of 65,535 cells on each axis.
+    Verdict {
+        bytes: &[
+            ("r", 44, 0xff),
+            ("r", 45, 0xff),
+            ("r", 46, 0xff),
+            ("r", 47, 0xff),
+            ("r", 48, 0xff),
+            ("r", 49, 0xff),
+        ],
+        line: "weave: limit records 281462092005375 over 33554432\n",
+        ..LIMIT
+    },
+];
+
+const CHECK: &str = "check sample=s out=o map=m record=r";
+
+const MADE: &[Made<'static>] = &[Made {
+    words: OVERLAPPING,
+    check: CHECK,
+    sample: FOUR_CELLS,
+    second: NO_CELL,
+    report: "grow 6x1x1\nplacements 2\nrounds 0\nseams 120\n",
+    picture: OVERLAP_PICTURE,
+}];
+
+const FILES: &[File<'static>] = &[
+    ("s", FOUR_CELLS),
+    ("o", OVERLAP_PICTURE),
+    ("m", OVERLAP_MAP),
+    ("r", OVERLAP_RECORD),
+];
+
+const UNREAD: Run<'static> = Run {
+    words: CHECK,
+    before: FILES,
+    failing: Failing::Get("s"),
+    status: 5,
+    report: "",
+    line: "weave: sample: read fault\n",
+    after: FILES,
+};
+
+// Each file that can't be read, once those before it are in their forms; and a report of which two
+// bytes are written.
+const FAILING: &[Run<'static>] = &[
+    UNREAD,
+    Run {
+        failing: Failing::Get("o"),
+        line: "weave: out: read fault\n",
+        ..UNREAD
+    },
+    Run {
+        failing: Failing::Get("m"),
+        line: "weave: map: read fault\n",
+        ..UNREAD
+    },
+    Run {
+        failing: Failing::Get("r"),
+        line: "weave: record: read fault\n",
+        ..UNREAD
+    },
+    Run {
+        failing: Failing::Report(2),
+        status: 6,
+        report: "st",
+        line: "weave: report: write fault\n",
+        ..UNREAD
+    },
+];
+
 #[test]
-fn whole_files(rt: HostRuntime) {
-    expect_none(&rt, wrong_verdict(rt.alloc(), WHOLE_FILES));
+fn rules(rt: HostRuntime) {
+    expect_table(&rt, rt.alloc(), Table::Verdicts(RECORDS));
+    expect_table(&rt, rt.alloc(), Table::Verdicts(WHOLE_FILES));
+    expect_table(&rt, rt.alloc(), Table::Verdicts(PICTURES_AND_MAPS));
+    expect_table(&rt, rt.alloc(), Table::Verdicts(BROKEN_RECORDS));
+    expect_table(&rt, rt.alloc(), Table::Made(MADE));
+    expect_table(&rt, rt.alloc(), Table::Runs(FAILING));
 }

@@ -1,7 +1,8 @@
 // Maps that name another cell than the records leave, with equal bytes: the picture is the map's,
 // and `check` refuses the map.
-use crate::expect::expect_none;
-use crate::files::FOUR_FRAMES;
+use crate::hostile::changed;
+use crate::samples::FOUR_FRAMES;
+use crate::tables::expect_none;
 use std::alloc::{AllocError, Global};
 use test_stage::Stage;
 
@@ -36,35 +37,23 @@ const TABLE: &[Row<'static>] = &[
     ),
 ];
 
-// What `check` finds, where it ends with this status.
-fn checked(stage: &mut Stage, status: u8, report: &str) -> Result<bool, AllocError> {
-    stage.clear();
-    stage.ends("check sample=s out=o map=m record=r", status, report, "")
-}
-
-// A file with another byte.
-fn changed(alloc: Global, file: &[u8], at: usize, byte: u8) -> Result<Vec<u8>, AllocError> {
-    let mut all = Vec::from_slice(alloc, file)?;
-    if let Some(old) = all.get_mut(at) {
-        *old = byte;
-    }
-    Ok(all)
-}
-
 // Gives the byte of the map another value.
 fn change_map(alloc: Global, stage: &mut Stage, at: usize, byte: u8) -> Result<(), AllocError> {
-    let map = changed(alloc, stage.file("m").unwrap_or(b""), at, byte)?;
+    let map = changed(alloc, stage.file("m").unwrap_or(b""), &[(at, byte)])?;
     stage.put_file("m", &map)
 }
 
-// Runs the words over a stage without a file, and checks what they leave before and after the change.
+// Runs the words over a stage without a file, and checks what they leave before and after the
+// change.
 fn is_found_on(alloc: Global, stage: &mut Stage, row: &Row) -> Result<bool, AllocError> {
     let (words, sample, at, byte, report) = *row;
+    let check = "check sample=s out=o map=m record=r";
     stage.put_file("s", sample)?;
     let status = stage.run(words)?;
-    let stood = checked(stage, 0, "stands\n")?;
+    let stood = stage.reports(check, "stands\n")?;
     change_map(alloc, stage, at, byte)?;
-    Ok(status == 0 && stood && checked(stage, 1, report)?)
+    stage.clear();
+    Ok(status == 0 && stood && stage.ends(check, 1, report, "")?)
 }
 
 fn is_found(alloc: Global, row: &Row) -> Result<bool, AllocError> {

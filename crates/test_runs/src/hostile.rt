@@ -1,18 +1,21 @@
-// Files that are refused, read by every command that reads such files. What each breaks is said
-// with the name of the file, and every file stays as it was.
-use crate::expect::expect_no_pair;
-use crate::files::{FOUR_FRAMES, ONE_GREY, TWO_CELLS};
+// Files that are refused, read by every command that reads such files: they break their form or
+// pass a limit, or are cut off at each byte. What each breaks is said with the name of the file,
+// and every file stays as it was.
+use crate::samples::{FOUR_FRAMES, ONE_GREY, TWO_CELLS};
+use crate::tables::expect_no_pair;
+use crate::{looped, quilting};
 use std::alloc::{AllocError, Global};
-use test_stage::{BEFORE, FOUR_CELLS, OVERLAP_MAP, OVERLAP_PICTURE, OVERLAP_RECORD, Stage};
+use std::process::Abort;
+use test_stage::{BEFORE, FOUR_CELLS, File, OVERLAP_MAP, OVERLAP_PICTURE, OVERLAP_RECORD, Stage};
 
-/// A command that reads a file: its words, its other files, the name of the file, and what lines
-/// call it.
+// A command that reads a file: its words, its other files, the name of the file, and what lines
+// call it.
 #[derive(Clone, Copy, Drop)]
-pub struct Reader<'a> {
-    pub words: &'a str,
-    pub others: &'a [(&'a str, &'a [u8])],
-    pub name: &'a str,
-    pub said: &'a str,
+struct Reader<'a> {
+    words: &'a str,
+    others: &'a [File<'a>],
+    name: &'a str,
+    said: &'a str,
 }
 
 const QUILT: Reader<'static> = Reader {
@@ -22,8 +25,8 @@ const QUILT: Reader<'static> = Reader {
     said: "sample",
 };
 
-/// Every command that reads a picture.
-pub const PICTURE_READERS: &[Reader<'static>] = &[
+// Every command that reads a picture.
+const PICTURE_READERS: &[Reader<'static>] = &[
     Reader {
         words: "grow sample=s out=o map=m record=r width=6 height=1",
         ..QUILT
@@ -85,8 +88,8 @@ const LOOP: Reader<'static> = Reader {
     ..QUILT
 };
 
-/// Every command that reads a clip.
-pub const CLIP_READERS: &[Reader<'static>] = &[
+// Every command that reads a clip.
+const CLIP_READERS: &[Reader<'static>] = &[
     LOOP,
     Reader {
         words: "grow sample=s out=o map=m record=r width=6 height=1 frames=2",
@@ -120,11 +123,15 @@ pub const CLIP_READERS: &[Reader<'static>] = &[
     },
 ];
 
-/// Every command that reads a map, and every one that reads a record of cuts.
-pub const MAP_READERS: &[Reader<'static>] = &[
+// Every command that reads a map of cells, and every one that reads a record of cuts.
+const MAP_READERS: &[Reader<'static>] = &[
     Reader {
         words: "check sample=s out=o map=m record=r",
-        others: &[("s", FOUR_CELLS), ("o", OVERLAP_PICTURE), ("r", BEFORE)],
+        others: &[
+            ("s", FOUR_CELLS),
+            ("o", OVERLAP_PICTURE),
+            ("r", OVERLAP_RECORD),
+        ],
         name: "m",
         said: "map",
     },
@@ -136,7 +143,7 @@ pub const MAP_READERS: &[Reader<'static>] = &[
     },
 ];
 
-pub const RECORD_READERS: &[Reader<'static>] = &[
+const RECORD_READERS: &[Reader<'static>] = &[
     Reader {
         words: "check sample=s out=o map=m record=r",
         others: &[
@@ -155,17 +162,42 @@ pub const RECORD_READERS: &[Reader<'static>] = &[
     },
 ];
 
-// The line of a refusal: only that of a form names the file.
-fn line_of(alloc: Global, reader: &Reader, status: u8, why: &str) -> Result<String, AllocError> {
-    if status == 3 {
-        let said = reader.said;
-        return format!(in alloc; "weave: {said}: {why}\n");
-    }
-    format!(in alloc; "weave: {why}\n")
-}
+// The check of a quilt, and those of a loop.
+const BLOCK_READERS: &[Reader<'static>] = &[Reader {
+    words: "check sample=s out=o map=m record=r",
+    others: &[
+        ("s", FOUR_CELLS),
+        ("o", quilting::PICTURE),
+        ("m", quilting::MAP),
+    ],
+    name: "r",
+    said: "record",
+}];
 
-// Runs a command over a stage without a file, and says whether it ends with this status and this line, and leaves
-// every file as it was.
+const FRAME_READERS: &[Reader<'static>] = &[Reader {
+    words: "check sample=s out=o map=m record=r",
+    others: &[
+        ("s", FOUR_FRAMES),
+        ("o", looped::TWO_FRAMES),
+        ("r", looped::RECORD),
+    ],
+    name: "m",
+    said: "map",
+}];
+
+const WALK_READERS: &[Reader<'static>] = &[Reader {
+    words: "check sample=s out=o map=m record=r",
+    others: &[
+        ("s", FOUR_FRAMES),
+        ("o", looped::TWO_FRAMES),
+        ("m", looped::MAP),
+    ],
+    name: "r",
+    said: "record",
+}];
+
+// Runs a command over a stage without a file, and says whether it ends with this status and this
+// line, and leaves every file as it was.
 fn ends_so_on(
     stage: &mut Stage,
     reader: &Reader,
@@ -193,7 +225,7 @@ fn ends_so(
 }
 
 // Whether a command that reads these bytes ends with this status and says why, and leaves every
-// file as it was.
+// file as it was. Only the line of a form names the file.
 fn is_refused(
     alloc: Global,
     reader: &Reader,
@@ -201,12 +233,17 @@ fn is_refused(
     status: u8,
     why: &str,
 ) -> Result<bool, AllocError> {
-    let line = line_of(alloc, reader, status, why)?;
+    let (said, colon) = if status == 3 {
+        (reader.said, ": ")
+    } else {
+        ("", "")
+    };
+    let line = format!(in alloc; "weave: {said}{colon}{why}\n")?;
     ends_so(alloc, reader, bytes, status, line.as_str())
 }
 
-/// The number of the first command, from 0, that doesn't refuse these bytes so.
-pub fn wrong_reader(
+// The number of the first command, from 0, that doesn't refuse these bytes so.
+fn wrong_reader(
     alloc: Global,
     readers: &[Reader],
     bytes: &[u8],
@@ -222,7 +259,7 @@ pub fn wrong_reader(
 }
 
 // The numbers of the first file and the first command, from 0, that aren't as they are to be.
-fn wrong_reading(
+fn wrong_file(
     alloc: Global,
     readers: &[Reader],
     table: &[(&[u8], u8, &str)],
@@ -235,73 +272,17 @@ fn wrong_reading(
     Ok(None)
 }
 
-const PICTURES: &[(&[u8], u8, &str)] = &[
-    (b"", 3, "form at 0"),
-    (b"P5\n1 1\n255\nabc", 3, "form at 1"),
-    (b"P6\n0 1\n255\n", 3, "form at 4"),
-    (b"P6\n1 1\n255#\nabc", 3, "form at 10"),
-    (b"P6\n2 1\n255\nabcde", 3, "form at 16"),
-    (b"P6\n2 1\n255\nabcdefg", 3, "trailing at 17"),
-    (b"P6\n2 1\n65535\nabcdefabcdef", 3, "depth"),
-    (b"P6\n1 1\n15\n\x0f\x10\x00", 3, "value at 11"),
-    (
-        b"P6\n99999999999999999999 1\n255\n",
-        4,
-        "limit axis 18446744073709551615 over 4096",
-    ),
-    (
-        b"P6\n4096 4096\n255\n",
-        4,
-        "limit cells 16777216 over 8388608",
-    ),
-];
-
-#[test]
-fn pictures(rt: HostRuntime) {
-    expect_no_pair(&rt, wrong_reading(rt.alloc(), PICTURE_READERS, PICTURES));
-}
-
-const CLIPS: &[(&[u8], u8, &str)] = &[
-    (b"Y", 3, "form at 1"),
-    (b"YUV4MPEG2 W4 W4\n", 3, "form at 13"),
-    (b"YUV4MPEG2 W0 H1 Cmono\n", 3, "form at 12"),
-    (b"YUV4MPEG2 W1 H1 Cmono", 3, "form at 21"),
-    (b"YUV4MPEG2 W5 H2 C420jpeg\nFRAME\n", 3, "cell"),
-    (b"YUV4MPEG2 W4 H2 C420p10\nFRAME\n", 3, "colour space"),
-    (b"YUV4MPEG2 W1 H1 Im Cmono\nFRAME\n\x00", 3, "colour space"),
-    (b"YUV4MPEG2 W4 H2 C420jpeg\n", 3, "no frames"),
-    (b"YUV4MPEG2 W1 H1 Cmono\nFRAME", 3, "form at 27"),
-    (b"YUV4MPEG2 W1 H1 Cmono\nFRAMEx\n\x00", 3, "form at 27"),
-    (b"YUV4MPEG2 W1 H1 Cmono\nFRAME\n", 3, "form at 28"),
-    (b"YUV4MPEG2 W1 H1 Cmono\nFRAME\n\x00x", 3, "form at 29"),
-    (b"YUV4MPEG2 W1 H1 Cmono\nFRAME\n\x00F", 3, "form at 30"),
-    (
-        b"YUV4MPEG2 W99999999999999999999 H1 Cmono\nFRAME\n",
-        4,
-        "limit axis 18446744073709551615 over 4096",
-    ),
-    (b"YUV4MPEG2 W1 H8194 C420jpeg\nFRAME\n", 3, "cell"),
-    (
-        b"YUV4MPEG2 W2 H8194 C420jpeg\nFRAME\n",
-        4,
-        "limit axis 4097 over 4096",
-    ),
-];
-
-#[test]
-fn clips(rt: HostRuntime) {
-    expect_no_pair(&rt, wrong_reading(rt.alloc(), CLIP_READERS, CLIPS));
-}
-
-// Bytes of a file that are others, by their places, and the refusal of it.
+// Bytes of a file that are others, by their places, where one at its end is added; and how it is
+// refused.
 type Changed<'a> = (&'a [(usize, u8)], u8, &'a str);
 
-// The file with other bytes.
-fn changed(alloc: Global, file: &[u8], bytes: &[(usize, u8)]) -> Result<Vec<u8>, AllocError> {
+/// The file with other bytes, of which one at its end is added.
+pub fn changed(alloc: Global, file: &[u8], bytes: &[(usize, u8)]) -> Result<Vec<u8>, AllocError> {
     let mut all = Vec::from_slice(alloc, file)?;
     for (at, byte) in bytes.iter() {
-        if let Some(old) = all.get_mut(*at) {
-            *old = *byte;
+        match all.get_mut(*at) {
+            Some(old) => *old = *byte,
+            None => all.push(*byte)?,
         }
     }
     Ok(all)
@@ -334,6 +315,54 @@ fn wrong_changing(
     Ok(None)
 }
 
+const PICTURES: &[(&[u8], u8, &str)] = &[
+    (b"", 3, "form at 0"),
+    (b"P5\n1 1\n255\nabc", 3, "form at 1"),
+    (b"P6\n0 1\n255\n", 3, "form at 4"),
+    (b"P6\n1 1\n255#\nabc", 3, "form at 10"),
+    (b"P6\n2 1\n255\nabcde", 3, "form at 16"),
+    (b"P6\n2 1\n255\nabcdefg", 3, "trailing at 17"),
+    (b"P6\n2 1\n65535\nabcdefabcdef", 3, "depth"),
+    (b"P6\n1 1\n15\n\x0f\x10\x00", 3, "value at 11"),
+    (
+        b"P6\n99999999999999999999 1\n255\n",
+        4,
+        "limit axis 18446744073709551615 over 4096",
+    ),
+    (
+        b"P6\n4096 4096\n255\n",
+        4,
+        "limit cells 16777216 over 8388608",
+    ),
+];
+
+const CLIPS: &[(&[u8], u8, &str)] = &[
+    (b"Y", 3, "form at 1"),
+    (b"YUV4MPEG2 W4 W4\n", 3, "form at 13"),
+    (b"YUV4MPEG2 W0 H1 Cmono\n", 3, "form at 12"),
+    (b"YUV4MPEG2 W1 H1 Cmono", 3, "form at 21"),
+    (b"YUV4MPEG2 W5 H2 C420jpeg\nFRAME\n", 3, "cell"),
+    (b"YUV4MPEG2 W4 H2 C420p10\nFRAME\n", 3, "colour space"),
+    (b"YUV4MPEG2 W1 H1 Im Cmono\nFRAME\n\x00", 3, "colour space"),
+    (b"YUV4MPEG2 W4 H2 C420jpeg\n", 3, "no frames"),
+    (b"YUV4MPEG2 W1 H1 Cmono\nFRAME", 3, "form at 27"),
+    (b"YUV4MPEG2 W1 H1 Cmono\nFRAMEx\n\x00", 3, "form at 27"),
+    (b"YUV4MPEG2 W1 H1 Cmono\nFRAME\n", 3, "form at 28"),
+    (b"YUV4MPEG2 W1 H1 Cmono\nFRAME\n\x00x", 3, "form at 29"),
+    (b"YUV4MPEG2 W1 H1 Cmono\nFRAME\n\x00F", 3, "form at 30"),
+    (
+        b"YUV4MPEG2 W99999999999999999999 H1 Cmono\nFRAME\n",
+        4,
+        "limit axis 18446744073709551615 over 4096",
+    ),
+    (b"YUV4MPEG2 W1 H8194 C420jpeg\nFRAME\n", 3, "cell"),
+    (
+        b"YUV4MPEG2 W2 H8194 C420jpeg\nFRAME\n",
+        4,
+        "limit axis 4097 over 4096",
+    ),
+];
+
 // The output's size is at byte 10, the sample's at 22, and the sources from 34 on.
 const MAPS: &[Changed<'static>] = &[
     (&[(0, b'w')], 3, "form at 0"),
@@ -347,6 +376,7 @@ const MAPS: &[Changed<'static>] = &[
     (&[(67, 1)], 3, "form at 66"),
     (&[(13, 7)], 3, "form at 70"),
     (&[(13, 5)], 3, "form at 64"),
+    (&[(70, 0)], 3, "form at 70"),
     (&[(12, 0x10), (13, 1)], 4, "limit axis 4097 over 4096"),
     (
         &[(12, 16), (13, 0), (16, 16), (17, 0), (20, 16), (21, 0)],
@@ -354,14 +384,6 @@ const MAPS: &[Changed<'static>] = &[
         "limit cells 68719476736 over 1048576",
     ),
 ];
-
-#[test]
-fn maps(rt: HostRuntime) {
-    expect_no_pair(
-        &rt,
-        wrong_changing(rt.alloc(), MAP_READERS, OVERLAP_MAP, MAPS),
-    );
-}
 
 // The count is at byte 34; the first record has its size at 44, its source at 50, its choice
 // at 56 and flows from 57 on.
@@ -381,6 +403,7 @@ const RECORDS: &[Changed<'static>] = &[
     (&[(51, 4)], 3, "form at 50"),
     (&[(53, 1)], 3, "form at 52"),
     (&[(56, 0xf1)], 3, "form at 56"),
+    (&[(100, 0)], 3, "form at 100"),
     (&[(24, 0x10), (25, 1)], 4, "limit axis 4097 over 4096"),
     (
         &[
@@ -397,9 +420,60 @@ const RECORDS: &[Changed<'static>] = &[
 ];
 
 #[test]
-fn records(rt: HostRuntime) {
+fn malformed_files(rt: HostRuntime) {
+    let alloc = rt.alloc();
+    expect_no_pair(&rt, wrong_file(alloc, PICTURE_READERS, PICTURES));
+    expect_no_pair(&rt, wrong_file(alloc, CLIP_READERS, CLIPS));
+    expect_no_pair(&rt, wrong_changing(alloc, MAP_READERS, OVERLAP_MAP, MAPS));
     expect_no_pair(
         &rt,
-        wrong_changing(rt.alloc(), RECORD_READERS, OVERLAP_RECORD, RECORDS),
+        wrong_changing(alloc, RECORD_READERS, OVERLAP_RECORD, RECORDS),
     );
+}
+
+// The number of the first command, from 0, that doesn't refuse so many first bytes of a file at
+// their end. The stream line of the clip has 54 bytes: at its end there is no frame.
+fn wrong_cut(
+    alloc: Global,
+    readers: &[Reader],
+    file: &[u8],
+    n: usize,
+) -> Result<Option<usize>, AllocError> {
+    let first = file.get(..n).unwrap_or(b"");
+    if n == 54 && file == TWO_CELLS {
+        return wrong_reader(alloc, readers, first, 3, "no frames");
+    }
+    let why = format!(in alloc; "form at {n}")?;
+    wrong_reader(alloc, readers, first, 3, why.as_str())
+}
+
+// The first cut, and the number of the first command, from 0, that doesn't refuse it.
+fn wrong_cutting(
+    alloc: Global,
+    readers: &[Reader],
+    file: &[u8],
+) -> Result<Option<(usize, usize)>, AllocError> {
+    for n in 0..file.len() {
+        if let Some(i) = wrong_cut(alloc, readers, file, n)? {
+            return Ok(Some((n, i)));
+        }
+    }
+    Ok(None)
+}
+
+fn expect_cut(rt: &impl Abort, alloc: Global, readers: &[Reader], file: &[u8]) {
+    expect_no_pair(rt, wrong_cutting(alloc, readers, file));
+}
+
+#[test]
+fn files_that_are_cut(rt: HostRuntime) {
+    let alloc = rt.alloc();
+    expect_cut(&rt, alloc, PICTURE_READERS, FOUR_CELLS);
+    expect_cut(&rt, alloc, PICTURE_READERS, OVERLAP_PICTURE);
+    expect_cut(&rt, alloc, CLIP_READERS, TWO_CELLS);
+    expect_cut(&rt, alloc, MAP_READERS, OVERLAP_MAP);
+    expect_cut(&rt, alloc, RECORD_READERS, OVERLAP_RECORD);
+    expect_cut(&rt, alloc, BLOCK_READERS, quilting::RECORD);
+    expect_cut(&rt, alloc, FRAME_READERS, looped::MAP);
+    expect_cut(&rt, alloc, WALK_READERS, looped::RECORD);
 }

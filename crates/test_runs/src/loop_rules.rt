@@ -1,7 +1,8 @@
-// Loops in their forms, with the first rule that they break.
-use crate::expect::expect_none;
-use crate::loop_clips::{ONE_MAP, ONE_PICTURE, ONE_RECORD, STANDS, THREE_FRAMES, TWO_FRAMES};
-use test_stage::{Verdict, wrong_verdict};
+// Loops with the first rule that they break, and frame maps and walk records that aren't in their
+// forms or pass a limit.
+use crate::looped::{ONE_MAP, ONE_PICTURE, ONE_RECORD, STANDS, THREE_FRAMES, TWO_FRAMES};
+use crate::tables::{Table, expect_table};
+use test_stage::Verdict;
 
 const BROKEN: Verdict<'static> = Verdict {
     status: 1,
@@ -64,13 +65,9 @@ const WALKS: &[Verdict<'static>] = &[
     },
 ];
 
-#[test]
-fn walks(rt: HostRuntime) {
-    expect_none(&rt, wrong_verdict(rt.alloc(), WALKS));
-}
-
-// Two frames, of which none has a step but to the next where jumps go three frames at least, and three frames, which have no
-// filtered distance. No walk through them is closed, whatever the tables say.
+// Two frames, of which none has a step but to the next where jumps go three frames at least, and
+// three frames, which have no filtered distance. No walk through them is closed, whatever the
+// tables say.
 const WITHOUT_A_LOOP: &[Verdict<'static>] = &[
     Verdict {
         sample: TWO_FRAMES,
@@ -131,11 +128,6 @@ const WITHOUT_A_LOOP: &[Verdict<'static>] = &[
     },
 ];
 
-#[test]
-fn clips_without_a_loop(rt: HostRuntime) {
-    expect_none(&rt, wrong_verdict(rt.alloc(), WITHOUT_A_LOOP));
-}
-
 const WHOLE_FILES: &[Verdict<'static>] = &[
     // A walk of one frame beside an output of two.
     Verdict {
@@ -183,7 +175,69 @@ const WHOLE_FILES: &[Verdict<'static>] = &[
     },
 ];
 
+const FORM: Verdict<'static> = Verdict {
+    status: 3,
+    report: "",
+    ..STANDS
+};
+
+const LIMIT: Verdict<'static> = Verdict { status: 4, ..FORM };
+
+const FORMS: &[Verdict<'static>] = &[
+    // A source past the sample's frames, and a sample of another width than the output.
+    Verdict {
+        bytes: &[("m", 37, 4)],
+        line: "weave: map: form at 36\n",
+        ..FORM
+    },
+    Verdict {
+        bytes: &[("m", 25, 2)],
+        line: "weave: map: form at 22\n",
+        ..FORM
+    },
+    // Length, taps and gap.
+    Verdict {
+        bytes: &[("r", 37, 0)],
+        line: "weave: record: form at 34\n",
+        ..FORM
+    },
+    Verdict {
+        bytes: &[
+            ("r", 34, 0xff),
+            ("r", 35, 0xff),
+            ("r", 36, 0xff),
+            ("r", 37, 0xff),
+        ],
+        line: "weave: limit loop 4294967295 over 4096\n",
+        ..LIMIT
+    },
+    Verdict {
+        bytes: &[("r", 38, 3)],
+        line: "weave: record: form at 38\n",
+        ..FORM
+    },
+    Verdict {
+        bytes: &[("r", 40, 0)],
+        line: "weave: record: form at 39\n",
+        ..FORM
+    },
+    Verdict {
+        bytes: &[("r", 39, 1)],
+        line: "weave: record: form at 39\n",
+        ..FORM
+    },
+    // A sample of 257 frames.
+    Verdict {
+        bytes: &[("r", 32, 1), ("r", 33, 1)],
+        line: "weave: limit frames 257 over 256\n",
+        ..LIMIT
+    },
+];
+
 #[test]
-fn whole_files(rt: HostRuntime) {
-    expect_none(&rt, wrong_verdict(rt.alloc(), WHOLE_FILES));
+fn rules(rt: HostRuntime) {
+    expect_table(&rt, rt.alloc(), Table::Verdicts(WALKS));
+    expect_table(&rt, rt.alloc(), Table::Verdicts(WITHOUT_A_LOOP));
+    expect_table(&rt, rt.alloc(), Table::Verdicts(WHOLE_FILES));
+    expect_table(&rt, rt.alloc(), Table::Verdicts(FORMS));
 }

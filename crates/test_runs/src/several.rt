@@ -1,9 +1,10 @@
-// Runs over two samples: the files of version 2, and the refusals of the second.
-use crate::expect::{expect_none, expect_true};
-use std::alloc::{AllocError, Global};
-use test_stage::{BEFORE, Case, Failing, Made, filled, holds, is_made, wrong_case};
+// Runs over two samples: the files of version 2, the refusals of the second, and two clips.
+use crate::samples::{TWO_CELLS, TWO_FRAMES};
+use crate::tables::{Table, expect_table};
+use test_stage::{BEFORE, Case, Failing, Made, ONE_CELL};
 
-// The sizes of both samples, and for each cell its sample and the place in it. A grid has the first alone.
+// The sizes of both samples, and for each cell its sample and the place in it. A grid has the
+// first alone.
 const MAP: &[u8] = b"WEAVEMAP\x02\x00\
 \x00\x00\x00\x02\x00\x00\x00\x01\x00\x00\x00\x01\x00\x02\
 \x00\x00\x00\x01\x00\x00\x00\x01\x00\x00\x00\x01\
@@ -63,8 +64,8 @@ const MIXED_REPORT: &str = "grow 3x1x1\nplacements 2\nrounds 0\nseams 765\n";
 
 const MIXED_PICTURE: &[u8] = b"P6\n3 1\n255\n\x0a\x0a\x0a\x14\x14\x14\x1e\x1e\x1e";
 
-// Two cells of grey 10 and 20, and two of grey 20 and 30. Draw 0 of seed 0 takes the first sample of two; the second patch
-// is that of sample 2, whose first cell is what is there.
+// Two cells of grey 10 and 20, and two of grey 20 and 30. Draw 0 of seed 0 takes the first sample
+// of two; the second patch is that of sample 2, whose first cell is what is there.
 const MIXED: Case<'static> = Case {
     words: MIXED_WORDS,
     sample: TEN_AND_20,
@@ -106,11 +107,6 @@ const CASES: &[Case<'static>] = &[
     },
 ];
 
-#[test]
-fn runs_over_two_samples(rt: HostRuntime) {
-    expect_none(&rt, wrong_case(rt.alloc(), CASES));
-}
-
 // The run, and the check of what it leaves.
 const ACCEPTED: Made<'static> = Made {
     words: MIXED_WORDS,
@@ -121,25 +117,48 @@ const ACCEPTED: Made<'static> = Made {
     picture: MIXED_PICTURE,
 };
 
-#[test]
-fn a_run_over_two_samples_is_accepted(rt: HostRuntime) {
-    expect_true(&rt, is_made(rt.alloc(), &ACCEPTED));
-}
+const CLIP_WORDS: &str =
+    "grow sample=s sample2=t out=o map=m record=r width=1 height=1 frames=2 place=grid overlap=0";
 
-// Two pictures of 4096 x 2048 black cells: each is within the bound, and both together pass it.
-fn are_too_many(alloc: Global) -> Result<bool, AllocError> {
-    let sample = filled(alloc, b"P6\n4096 2048\n255\n", 0, 25_165_824, b"")?;
-    let case = Case {
-        sample: &sample,
-        second: &sample,
-        status: 4,
-        line: "weave: limit cells 16777216 over 8388608\n",
-        ..REFUSED
-    };
-    holds(alloc, &case)
-}
+const OF_CLIPS: &[Made<'static>] = &[Made {
+    words: CLIP_WORDS,
+    check: "check sample=s sample2=t out=o map=m record=r",
+    sample: TWO_FRAMES,
+    second: b"YUV4MPEG2 W1 H1 F25:1 Cmono\nFRAME\n\x1e",
+    report: "grow 1x1x2\nplacements 1\nrounds 0\nseams 0\n",
+    picture: TWO_FRAMES,
+}];
+
+const UNLIKE: Case<'static> = Case {
+    words: CLIP_WORDS,
+    sample: TWO_FRAMES,
+    second: ONE_CELL,
+    failing: Failing::Nothing,
+    status: 3,
+    report: "",
+    line: "weave: sample2: unlike\n",
+    picture: BEFORE,
+    map: BEFORE,
+    record: BEFORE,
+};
+
+const UNLIKE_CLIPS: &[Case<'static>] = &[
+    UNLIKE,
+    Case {
+        sample: ONE_CELL,
+        second: TWO_FRAMES,
+        ..UNLIKE
+    },
+    Case {
+        second: TWO_CELLS,
+        ..UNLIKE
+    },
+];
 
 #[test]
-fn samples_of_too_many_cells(rt: HostRuntime) {
-    expect_true(&rt, are_too_many(rt.alloc()));
+fn two_samples(rt: HostRuntime) {
+    expect_table(&rt, rt.alloc(), Table::Cases(CASES));
+    expect_table(&rt, rt.alloc(), Table::Made(&[ACCEPTED]));
+    expect_table(&rt, rt.alloc(), Table::Made(OF_CLIPS));
+    expect_table(&rt, rt.alloc(), Table::Cases(UNLIKE_CLIPS));
 }

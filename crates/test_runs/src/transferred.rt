@@ -1,6 +1,8 @@
-// Worked transfers: where each cell comes from, the boundaries, and how far the picture is from the target.
-use crate::expect::expect_none;
-use test_stage::{Case, FOUR_CELLS, Failing, Verdict, wrong_case, wrong_verdict};
+// Worked transfers: where each cell comes from, the boundaries, and how far the picture is from
+// the target. Words, samples and targets that `transfer` refuses, in the order in which they are
+// refused. No file is written.
+use crate::tables::{Table, expect_table};
+use test_stage::{BEFORE, Case, FOUR_CELLS, Failing, Verdict};
 
 const PAIR: &[u8] = b"P6\n2 1\n255\n\x1e\x1e\x1e\x28\x28\x28";
 
@@ -92,8 +94,9 @@ const DRAWN_RECORD: &[u8] = b"WEAVEREC\x01\x01\
 \x00\x01\x00\x00\x00\x00\x00\x00\x04\xb0\x00\x00\x09\x60\
 \x00\x01\x00\x00\x00\x00\x00\x00\x04\xb0\x00\x00\x3e\x1c";
 
-// Two blocks, both from the third column: the first is the target's own, and the second is 3 * (10 * 10 + 30 * 30) from it.
-pub const TWO: Case<'static> = Case {
+// Two blocks, both from the third column: the first is the target's own, and the second is 3 * (10
+// * 10 + 30 * 30) from it.
+const TWO: Case<'static> = Case {
     words: "transfer sample=s target=t out=o map=m record=r block=2 overlap=1 alpha=50 tol=0",
     sample: FOUR_CELLS,
     second: TRIPLE,
@@ -168,11 +171,6 @@ const TRANSFERRED: &[Case<'static>] = &[
     },
 ];
 
-#[test]
-fn targets_are_painted(rt: HostRuntime) {
-    expect_none(&rt, wrong_case(rt.alloc(), TRANSFERRED));
-}
-
 const STANDS: Verdict<'static> = Verdict {
     sample: FOUR_CELLS,
     picture: PAIR,
@@ -208,7 +206,88 @@ const ACCEPTED: &[Verdict<'static>] = &[
     },
 ];
 
+const WORDS: &[(&str, u8, &str)] = &[
+    ("transfer sample=s out=o", 2, "weave: missing key target\n"),
+    (
+        "transfer sample=s target=s",
+        2,
+        "weave: word 3: name already used\n",
+    ),
+    ("transfer alpha=101", 2, "weave: word 2: out of range\n"),
+    ("transfer alpha=-1", 2, "weave: word 2: bad value\n"),
+    ("transfer width=3", 2, "weave: word 2: unknown key\n"),
+    // The number 50; what is refused is the sample.
+    (
+        "transfer sample=x target=s out=o map=m record=r alpha=050",
+        5,
+        "weave: sample: read fault\n",
+    ),
+];
+
+const REFUSED: Case<'static> = Case {
+    status: 3,
+    report: "",
+    picture: BEFORE,
+    map: BEFORE,
+    record: BEFORE,
+    ..TWO
+};
+
+const CLIP: &[u8] = b"YUV4MPEG2 W3 H1 Cmono\nFRAME\n\x1e\x28\x0a";
+
+// Another maxval, and as many cells as are read at most.
+const DARK: &[u8] = b"P6\n3 1\n200\n\x1e\x1e\x1e\x28\x28\x28\x0a\x0a\x0a";
+
+const BROAD: &[u8] = b"P6\n4096 2049\n255\n";
+
+const FILES: &[Case<'static>] = &[
+    Case {
+        sample: CLIP,
+        line: "weave: sample: form at 0\n",
+        ..REFUSED
+    },
+    Case {
+        second: CLIP,
+        line: "weave: target: form at 0\n",
+        ..REFUSED
+    },
+    Case {
+        second: DARK,
+        line: "weave: target: unlike\n",
+        ..REFUSED
+    },
+    Case {
+        sample: DARK,
+        line: "weave: target: unlike\n",
+        ..REFUSED
+    },
+    // The sample is refused before the target is read, and a target that can't be read is refused
+    // whatever its maxval.
+    Case {
+        sample: b"P6\n",
+        second: CLIP,
+        line: "weave: sample: form at 3\n",
+        ..REFUSED
+    },
+    Case {
+        failing: Failing::Get("s"),
+        second: CLIP,
+        status: 5,
+        line: "weave: sample: read fault\n",
+        ..REFUSED
+    },
+    Case {
+        second: BROAD,
+        status: 4,
+        line: "weave: limit cells 8392704 over 8388608\n",
+        ..REFUSED
+    },
+];
+
 #[test]
-fn transfers_are_accepted(rt: HostRuntime) {
-    expect_none(&rt, wrong_verdict(rt.alloc(), ACCEPTED));
+fn targets_are_painted(rt: HostRuntime) {
+    expect_table(&rt, rt.alloc(), Table::Cases(TRANSFERRED));
+    expect_table(&rt, rt.alloc(), Table::Verdicts(ACCEPTED));
+    expect_table(&rt, rt.alloc(), Table::Words(FOUR_CELLS, WORDS));
+    expect_table(&rt, rt.alloc(), Table::Cases(FILES));
 }

@@ -1,7 +1,7 @@
 // What is said of an output that is grown from a sample of a number. No file is read or written.
-use crate::expect::{expect_none, expect_true};
+use crate::tables::{Table, expect_table, expect_true};
 use std::alloc::{AllocError, Global};
-use test_stage::{BEFORE, Case, Failing, NO_CELL, ONE_CELL, Stage, wrong_case, wrong_words};
+use test_stage::{BEFORE, Case, Failing, NO_CELL, ONE_CELL, Stage};
 
 const BEGINNING: &[u8] =
     b"trial 1\nsample 64x64x1\ngrow 256x256x1\nplacements 121\nrounds 5\nseams ";
@@ -11,7 +11,8 @@ const LONG_BEGINNING: &[u8] =
 
 const END: &[u8] = b"\nrecord stands\n";
 
-// Runs a trial, and says whether it ends with status 0 and without a line, and its report begins and ends as given.
+// Runs a trial, and says whether it ends with status 0 and without a line, and its report begins
+// and ends as given.
 fn is_well(stage: &mut Stage, words: &str, beginning: &[u8]) -> Result<bool, AllocError> {
     let status = stage.run(words)?;
     let text = stage.report();
@@ -19,7 +20,8 @@ fn is_well(stage: &mut Stage, words: &str, beginning: &[u8]) -> Result<bool, All
     Ok(status == 0 && stage.line().is_empty() && are_ends)
 }
 
-// Whether both lines of words have one report, which begins and ends as given, each on a stage of its own.
+// Whether both lines of words have one report, which begins and ends as given, each on a stage of
+// its own.
 fn is_one_report_on(
     one: &mut Stage,
     other: &mut Stage,
@@ -45,24 +47,6 @@ fn is_one_report(
     found
 }
 
-#[test]
-fn the_trial_of_number_1_is_the_same_text_twice(rt: HostRuntime) {
-    let words = "trial seed=0 rounds=5 n=1 place=sub box=32 overlap=8 tol=10 width=256 height=256";
-    expect_true(
-        &rt,
-        is_one_report(rt.alloc(), "trial n=1", words, BEGINNING),
-    );
-}
-
-#[test]
-fn a_trial_of_200_rounds_is_the_same_text_twice(rt: HostRuntime) {
-    let words = "trial rounds=200 n=1";
-    expect_true(
-        &rt,
-        is_one_report(rt.alloc(), "trial n=1 rounds=200", words, LONG_BEGINNING),
-    );
-}
-
 const REFUSED: &[(&str, u8, &str)] = &[
     ("trial", 2, "weave: missing key n\n"),
     ("trial n=4294967296", 2, "weave: word 2: out of range\n"),
@@ -74,11 +58,6 @@ const REFUSED: &[(&str, u8, &str)] = &[
         "weave: limit output 1049600 over 1048576\n",
     ),
 ];
-
-#[test]
-fn trials_that_are_refused(rt: HostRuntime) {
-    expect_none(&rt, wrong_words(rt.alloc(), ONE_CELL, REFUSED));
-}
 
 // The sample alone fills a small output by one copy; its seams are none.
 const SMALL: Case<'static> = Case {
@@ -106,6 +85,21 @@ const WRITTEN: &[Case<'static>] = &[
 ];
 
 #[test]
-fn a_small_trial_and_a_report_that_cant_be_written(rt: HostRuntime) {
-    expect_none(&rt, wrong_case(rt.alloc(), WRITTEN));
+fn the_trial_of_number_1_is_the_same_text_twice(rt: HostRuntime) {
+    let words = "trial seed=0 rounds=5 n=1 place=sub box=32 overlap=8 tol=10 width=256 height=256";
+    let (longer, other) = ("trial n=1 rounds=200", "trial rounds=200 n=1");
+    expect_true(
+        &rt,
+        is_one_report(rt.alloc(), "trial n=1", words, BEGINNING),
+    );
+    expect_true(
+        &rt,
+        is_one_report(rt.alloc(), longer, other, LONG_BEGINNING),
+    );
+}
+
+#[test]
+fn other_trials(rt: HostRuntime) {
+    expect_table(&rt, rt.alloc(), Table::Words(ONE_CELL, REFUSED));
+    expect_table(&rt, rt.alloc(), Table::Cases(WRITTEN));
 }

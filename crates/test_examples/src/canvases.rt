@@ -218,17 +218,14 @@ const KEPT: &[(Place, (u32, u32), Place, bool)] = &[
     ((-9, 0, 0), (9, 2), (-1, 0, 0), false),
 ];
 
-#[test]
-fn kept_cells_of_a_box(rt: HostRuntime) {
-    let sample = volume_of(&rt, rt.alloc(), TWO, 2, TWO_CELLS);
-    let canvas = canvas_with(&rt, rt.alloc(), EIGHT, &sample, THREE_FILLED);
+fn expect_kept(rt: &impl Abort, canvas: &Canvas) {
     for (i, (corner, size, cell, kept)) in KEPT.iter().enumerate() {
         let (w, h) = *size;
         let rect = Box3 {
             corner: at(*corner),
             size: Size { w, h, f: 1 },
         };
-        expect_row(&rt, i, canvas.is_kept(&rect, at(*cell)) == *kept);
+        expect_row(rt, i, canvas.is_kept(&rect, at(*cell)) == *kept);
     }
 }
 
@@ -240,15 +237,21 @@ const OTHERS: &[(u32, &[u8], u32, bool)] = &[
     (2, &[10, 20], 1, false),
 ];
 
-#[test]
-fn samples_that_a_canvas_stands_over(rt: HostRuntime) {
-    let sample = volume_of(&rt, rt.alloc(), TWO, 2, TWO_CELLS);
-    let canvas = canvas_with(&rt, rt.alloc(), EIGHT, &sample, THREE_FILLED);
+fn expect_others(rt: &impl Abort, alloc: Global, canvas: &Canvas) {
     for (i, (w, bytes, k, stands)) in OTHERS.iter().enumerate() {
         let size = Size { w: *w, h: 1, f: 1 };
-        let other = volume_of(&rt, rt.alloc(), size, *k, *bytes);
-        expect_row(&rt, i, canvas.render_equals(&other) == *stands);
+        let other = volume_of(rt, alloc, size, *k, *bytes);
+        expect_row(rt, i, canvas.render_equals(&other) == *stands);
     }
+}
+
+// Which cells of a box are kept, and which samples the canvas stands over.
+#[test]
+fn three_filled_cells(rt: HostRuntime) {
+    let sample = volume_of(&rt, rt.alloc(), TWO, 2, TWO_CELLS);
+    let canvas = canvas_with(&rt, rt.alloc(), EIGHT, &sample, THREE_FILLED);
+    expect_kept(&rt, &canvas);
+    expect_others(&rt, rt.alloc(), &canvas);
 }
 
 #[test]

@@ -122,16 +122,12 @@ fn seams_of_rows(rt: HostRuntime) {
 // The columns of the first row, and what the seam on the right of each costs. Below the row there is none.
 const PAIRS: &[(i32, u32)] = &[(-1, 0), (0, 0), (1, 0), (2, 120), (3, 0), (5, 0), (6, 0)];
 
-#[test]
-fn seams_of_pairs(rt: HostRuntime) {
-    let (size, bytes) = GREYS;
-    let sample = volume_of(&rt, rt.alloc(), size, 3, bytes);
-    let canvas = canvas_with(&rt, rt.alloc(), SIX, &sample, FIRST_ROW);
+fn expect_pairs(rt: &impl Abort, canvas: &Canvas, sample: &Volume) {
     for (i, (x, cost)) in PAIRS.iter().enumerate() {
         let p = at((*x, 0, 0));
-        let right = pair_cost(&canvas, &sample, p, Axis::X);
-        let below = pair_cost(&canvas, &sample, p, Axis::Y);
-        expect_row(&rt, i, (right == *cost) & (below == 0));
+        let right = pair_cost(canvas, sample, p, Axis::X);
+        let below = pair_cost(canvas, sample, p, Axis::Y);
+        expect_row(rt, i, (right == *cost) & (below == 0));
     }
 }
 
@@ -217,12 +213,13 @@ const FROM_THE_THIRD: Placement = Placement {
     from: At { x: 0, y: 0, f: 0 },
 };
 
-// The worst window is right, and still is once the placement is put in.
+// The worst window of the first row is right, and still is once the placement is put in.
 #[test]
-fn worst_of_a_row(rt: HostRuntime) {
+fn pairs_and_the_worst_window(rt: HostRuntime) {
     let (size, bytes) = GREYS;
     let sample = volume_of(&rt, rt.alloc(), size, 3, bytes);
     let mut canvas = canvas_with(&rt, rt.alloc(), SIX, &sample, FIRST_ROW);
+    expect_pairs(&rt, &canvas, &sample);
     assert_window(&rt, canvas.map().size(), FOUR);
     let Ok(mut table) = SeamTable::make(rt.alloc(), &canvas, &sample, FOUR) else {
         rt.abort()

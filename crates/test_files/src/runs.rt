@@ -33,7 +33,7 @@ const GREYS: &[u8] = b"P6\n4 1\n60\n\x0a\x0a\x0a\x14\x14\x14\x1e\x1e\x1e\x28\x28
 const GREY_QUILT: &[u8] =
     b"P6\n6 1\n60\n\x0a\x0a\x0a\x14\x14\x14\x0a\x0a\x0a\x14\x14\x14\x1e\x1e\x1e\x28\x28\x28";
 
-const GREY_RECORD: &[u8] =
+const GREY_RECORD: &[u8; 76] =
     b"WEAVEREC\x01\x01\0\0\0\x06\0\0\0\x01\0\0\0\x01\0\0\0\x04\0\0\0\x01\0\0\0\x01\
     \0\0\0\x02\
     \0\0\0\0\0\x04\0\x01\0\0\0\0\0\
@@ -155,13 +155,13 @@ const LOOPS: &[Run<'static>] = &[
 ];
 
 // The map of cells 0, 1, 2, 1, 2 and 3 of a sample, in version 2.
-const NEW_MAP: &[u8] =
+const NEW_MAP: &[u8; 84] =
     b"WEAVEMAP\x02\x00\0\0\0\x06\0\0\0\x01\0\0\0\x01\0\x01\0\0\0\x04\0\0\0\x01\0\0\0\x01\
     \0\x01\0\0\0\0\0\0\0\x01\0\x01\0\0\0\0\0\x01\0\x02\0\0\0\0\
     \0\x01\0\x01\0\0\0\0\0\x01\0\x02\0\0\0\0\0\x01\0\x03\0\0\0\0";
 
 // Its records in version 2.
-const NEW_RECORD: &[u8] =
+const NEW_RECORD: &[u8; 106] =
     b"WEAVEREC\x02\x00\0\0\0\x06\0\0\0\x01\0\0\0\x01\0\x01\0\0\0\x04\0\0\0\x01\0\0\0\x01\
     \0\0\0\x02\
     \0\0\0\0\0\0\0\x04\0\x01\0\x01\0\x01\0\0\0\0\0\0\xf0\0\0\0\0\0\0\0\0\0\0\0\0\

@@ -10,12 +10,12 @@ const SAMPLE: &[u8] = b"P6\n4 1\n255\n\x0a\x0a\x0a\x14\x14\x14\x1e\x1e\x1e\x28\x
 const OUT: &[u8] =
     b"P6\n6 1\n255\n\x0a\x0a\x0a\x14\x14\x14\x1e\x1e\x1e\x14\x14\x14\x1e\x1e\x1e\x28\x28\x28";
 
-pub const MAP: &[u8] =
+pub const MAP: &[u8; 70] =
     b"WEAVEMAP\x01\x00\0\0\0\x06\0\0\0\x01\0\0\0\x01\0\0\0\x04\0\0\0\x01\0\0\0\x01\
 \0\0\0\0\0\0\0\x01\0\0\0\0\0\x02\0\0\0\0\0\x01\0\0\0\0\0\x02\0\0\0\0\0\x03\0\0\0\0";
 
 // A box over cells 0 to 3, all new, and one over cells 2 to 5, of which cell 2 stays old.
-pub const RECORD: &[u8] =
+pub const RECORD: &[u8; 100] =
     b"WEAVEREC\x01\x00\0\0\0\x06\0\0\0\x01\0\0\0\x01\0\0\0\x04\0\0\0\x01\0\0\0\x01\
 \0\0\0\x02\
 \0\0\0\0\0\0\0\x04\0\x01\0\x01\0\0\0\0\0\0\xf0\0\0\0\0\0\0\0\0\0\0\0\0\

@@ -35,11 +35,10 @@ const STARTS: [usize; 3] = [0, 2, 3];
 // Turns a bit of a byte, or puts another byte in its place.
 fn change_byte(bytes: &mut Vec<u8>, dice: &mut Dice, is_bit: bool) {
     let drawn = if is_bit {
-        BITS.get(dice.below(BITS.len()))
+        dice.byte(&BITS)
     } else {
-        BYTES.get(dice.below(BYTES.len()))
+        dice.byte(&BYTES)
     };
-    let drawn = drawn.copied().unwrap_or(0);
     if let Some(byte) = bytes.get_mut(dice.below(bytes.len())) {
         *byte = if is_bit { *byte ^ drawn } else { drawn };
     }

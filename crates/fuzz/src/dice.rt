@@ -29,6 +29,12 @@ impl Dice {
         self.draw().checked_rem(n as u64).unwrap_or(0) as usize
     }
 
+    /// One of some bytes.
+    pub fn byte(&mut self, bytes: &[u8]) -> u8 {
+        let i = self.below(bytes.len());
+        bytes.get(i).copied().unwrap_or(0)
+    }
+
     /// One of a list of texts.
     pub fn text(&mut self, texts: &[&'static str]) -> &'static str {
         let i = self.below(texts.len());

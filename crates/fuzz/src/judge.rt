@@ -1,7 +1,7 @@
 // What the promises say of a case, where it can be computed.
 use crate::cases::Case;
 use crate::files::{are_same, put_files};
-use crate::lines::is_line_of;
+use crate::lines::{LINES, is_line_of};
 use crate::words::add_line;
 use crate::written::{Checked, are_cut_at, command_of, stopped_at, value_of};
 use std::alloc::{AllocError, Global};
@@ -25,7 +25,7 @@ struct Left {
 
 // A run that was refused.
 fn refused_promise(before: &Stage, run: &Left) -> Option<&'static str> {
-    if !is_line_of(run.status, run.stage.line()) {
+    if !is_line_of(LINES, run.status, run.stage.line()) {
         return Some("another line than one of the status");
     }
     if !run.stage.report().is_empty() {

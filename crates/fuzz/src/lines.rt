@@ -3,8 +3,11 @@
 // Every line begins so.
 const NAME: &[u8] = b"weave: ";
 
-// The lines by their status: how one goes on, and how it ends.
-const LINES: &[(u8, &[u8], &[u8])] = &[
+/// A status, how a line of it goes on, and how it ends.
+pub type Ending<'a> = (u8, &'a [u8], &'a [u8]);
+
+/// The lines of all statuses.
+pub const LINES: &[Ending<'static>] = &[
     (2, b"no command\n", b""),
     (2, b"unknown command\n", b""),
     (2, b"word ", b""),
@@ -23,8 +26,9 @@ const LINES: &[(u8, &[u8], &[u8])] = &[
     (8, b"no loop of length ", b""),
 ];
 
-/// Whether the bytes are one line, and it goes with the status.
-pub fn is_line_of(status: u8, bytes: &[u8]) -> bool {
+/// Whether the bytes are one line, and it goes with the status. (A table that is given is no part of
+/// the proof.)
+pub fn is_line_of(lines: &[Ending], status: u8, bytes: &[u8]) -> bool {
     let Some(text) = bytes.strip_prefix(NAME) else {
         return false;
     };
@@ -35,7 +39,7 @@ pub fn is_line_of(status: u8, bytes: &[u8]) -> bool {
     if !is_one_line | ((status == 3) & text.ends_with(b" fault\n")) {
         return false;
     }
-    for (of, first, end) in LINES {
+    for (of, first, end) in lines {
         if (*of == status) & text.starts_with(*first) & text.ends_with(*end) {
             return true;
         }

@@ -29,7 +29,7 @@ mod written;
 use cases::Case;
 use dice::Dice;
 use judge::judge_case;
-use memory::{Surely, end_of};
+use memory::{RUNS, Surely, end_of};
 use pool::{MADE, World, add_worlds};
 use std::process::ExitCode;
 use std::{env, io};
@@ -141,7 +141,7 @@ fn make_and_run(
 
 // Does one run over stores that take no memory.
 fn run_surely(rt: &HostRuntime, number: usize) -> io::Result<ExitCode> {
-    let ended = match end_of(rt.alloc(), number) {
+    let ended = match end_of(rt.alloc(), RUNS, number) {
         Ok(Surely::Well) => "ended well",
         Ok(Surely::Wrong) => "is wrong",
         Ok(Surely::NoMemory) | Err(_) => return Ok(ExitCode::from(NO_MEMORY)),

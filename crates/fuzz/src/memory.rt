@@ -4,8 +4,8 @@ use shelf_core::{SureShelf, SureSink};
 use std::alloc::{AllocError, Global};
 use test_stage::{File, ran};
 
-// A run: its words, the files before it, and its report.
-type Sure<'a> = (&'a str, &'a [File<'a>], &'a str);
+/// A run: its words, the files before it, and its report.
+pub type Sure<'a> = (&'a str, &'a [File<'a>], &'a str);
 
 const GREYS: &[u8] = b"P6\n4 1\n255\n\x0a\x0a\x0a\x14\x14\x14\x1e\x1e\x1e\x28\x28\x28";
 
@@ -52,7 +52,8 @@ const TURNED_RECORD: &[u8] = b"WEAVEREC\x02\x00\
 
 const BEFORE: &[u8] = b"as before";
 
-const RUNS: &[Sure<'static>] = &[
+/// The runs, by their numbers.
+pub const RUNS: &[Sure<'static>] = &[
     (
         "grow sample=s out=o map=m record=r width=6 height=1 place=grid overlap=2 box=4 rounds=1",
         &[("s", GREYS), ("o", BEFORE), ("m", BEFORE), ("r", BEFORE)],
@@ -203,15 +204,10 @@ fn ended_on(
     Ok(judged(status, shelf, out, err, files, report))
 }
 
-// (By itself, so that the table is no part of the proof of what is done with a run.)
-fn run_of(number: usize) -> Option<&'static Sure<'static>> {
-    RUNS.get(number)
-}
-
 /// Does the run of a number. The one error is that there is no memory for its stores and its
-/// words.
-pub fn end_of(alloc: Global, number: usize) -> Result<Surely, AllocError> {
-    let Some(run) = run_of(number) else {
+/// words. (A table that is given is no part of the proof.)
+pub fn end_of(alloc: Global, runs: &[Sure], number: usize) -> Result<Surely, AllocError> {
+    let Some(run) = runs.get(number) else {
         return Ok(Surely::Wrong);
     };
     let mut out = SureSink::make(alloc, 256)?;

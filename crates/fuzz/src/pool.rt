@@ -161,9 +161,9 @@ const UPGRADE: &str = "upgrade map=m record=r newmap=n newrecord=q";
 impl World {
     // Runs both lines over these samples, and says whether `check` finds that the files stand.
     fn make(&mut self, sample: &[u8], second: &[u8]) -> Result<bool, AllocError> {
-        self.stage.put_file("s", sample)?;
-        self.stage.put_file("t", second)?;
-        self.stage.put_file("u", MARKS)?;
+        let put = self.stage.put_file("s", sample);
+        let put = put.and(self.stage.put_file("t", second));
+        put.and(self.stage.put_file("u", MARKS))?;
         self.stage.run(self.words)?;
         if self.stage.run(UPGRADE)? == 0 {
             self.count = NAMES.len();

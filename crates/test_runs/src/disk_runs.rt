@@ -1,7 +1,7 @@
 // Whole runs over files of the system, and that none begins a file that another name of the run leads to.
 use crate::disk::{Row, Step, wrong_step};
 use crate::disk_grow::{MAP, PICTURE, SAMPLE};
-use crate::expect::expect_none;
+use crate::tables::expect_none;
 
 const FILES: &[Row<'static>] = &[
     ("s", Step::Put(SAMPLE)),

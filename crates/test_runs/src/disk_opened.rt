@@ -1,6 +1,6 @@
 // That the shelf keeps to the files that it opened.
 use crate::disk::{Row, Step, wrong_step};
-use crate::expect::expect_none;
+use crate::tables::expect_none;
 
 const OPENED: &[Row<'static>] = &[
     // One that it began gets another name.

@@ -27,9 +27,9 @@ const OUTPUTS: &[File<'static>] = &[("o", BEFORE), ("m", BEFORE), ("r", BEFORE)]
 
 // Sets both samples, and the files that a run may write.
 fn put_before(stage: &mut Stage, sample: &[u8], second: &[u8]) -> Result<(), AllocError> {
-    stage.put_file("s", sample)?;
-    stage.put_file("t", second)?;
-    stage.put_files(OUTPUTS)
+    let put = stage.put_file("s", sample);
+    let put = put.and(stage.put_file("t", second));
+    put.and(stage.put_files(OUTPUTS))
 }
 
 // Whether the samples stay, and the other files are as they are to be.

@@ -20,9 +20,9 @@ const FILES: &str = "check sample=s out=o map=m record=r";
 
 // Sets a file that may neither be begun nor added to.
 fn put_kept(stage: &mut Stage, name: &str, bytes: &[u8]) -> Result<(), AllocError> {
-    stage.put_file(name, bytes)?;
-    stage.fail(Failing::Begin(name), 0)?;
-    stage.fail(Failing::Add(name, 0), 0)
+    let put = stage.put_file(name, bytes);
+    let put = put.and(stage.fail(Failing::Begin(name), 0));
+    put.and(stage.fail(Failing::Add(name, 0), 0))
 }
 
 // Sets a file with the other bytes of its name.
@@ -47,10 +47,10 @@ fn put_changed(
 }
 
 fn put_all(alloc: Global, stage: &mut Stage, of: &Verdict) -> Result<(), AllocError> {
-    put_changed(alloc, stage, "s", of.sample, of.bytes)?;
-    put_changed(alloc, stage, "o", of.picture, of.bytes)?;
-    put_changed(alloc, stage, "m", of.map, of.bytes)?;
-    put_changed(alloc, stage, "r", of.record, of.bytes)
+    let put = put_changed(alloc, stage, "s", of.sample, of.bytes);
+    let put = put.and(put_changed(alloc, stage, "o", of.picture, of.bytes));
+    let put = put.and(put_changed(alloc, stage, "m", of.map, of.bytes));
+    put.and(put_changed(alloc, stage, "r", of.record, of.bytes))
 }
 
 // Checks the files of a stage by these words, and says whether all is as it is to be.

@@ -1,10 +1,10 @@
 //! The stage of the whole runs: a line of words is run over files in memory, and what is there afterwards is held against
 //! what is expected.
 //!
-//! The crates whose names begin with `test_run` have whole runs of weave as tests, and share what is here; `fuzz` runs its
-//! cases over a stage. No function has a contract: each says whether all is as expected, or which row of a table is the
-//! first that isn't, and a test asserts that. `stage` runs a line, `cases` has runs that write, `refusals` those that are
-//! refused, `verdicts` those of `check`, and `rows` the worked examples that several of these crates use.
+//! `test_runs` has whole runs of weave as tests, by what is here; `fuzz` runs its cases over a stage. No function has a
+//! contract: each says whether all is as expected, or which row of a table is the first that isn't, and a test asserts that.
+//! `stage` runs a line, `cases` has runs that write, `refusals` those that are refused, `verdicts` those of `check`, and
+//! `rows` worked examples.
 #![tactic(auto)]
 
 mod bytes;
@@ -24,6 +24,4 @@ pub use rows::{
 };
 pub use runs::{Run, leaves, wrong_run};
 pub use stage::{Failing, File, Stage, is_file, ran};
-pub use verdicts::{
-    Verdict, is_judged, wrong_map_cut, wrong_record_cut, wrong_verdict, wrong_verdict_by,
-};
+pub use verdicts::{Verdict, wrong_verdict, wrong_verdict_by};

@@ -73,11 +73,6 @@ fn is_judged_by(alloc: Global, words: &str, of: &Verdict) -> Result<bool, AllocE
     found
 }
 
-/// Checks the files, and says whether status, report and line are these, and no file is written.
-pub fn is_judged(alloc: Global, of: &Verdict) -> Result<bool, AllocError> {
-    is_judged_by(alloc, FILES, of)
-}
-
 /// The number of the first files, from 0, of which something else is said by these words.
 pub fn wrong_verdict_by(
     alloc: Global,
@@ -95,48 +90,4 @@ pub fn wrong_verdict_by(
 /// The number of the first files, from 0, of which something else is said.
 pub fn wrong_verdict(alloc: Global, table: &[Verdict]) -> Result<Option<usize>, AllocError> {
     wrong_verdict_by(alloc, FILES, table)
-}
-
-// Checks a map or a record of which there are so many first bytes: it is refused at their end.
-fn is_cut(alloc: Global, of: &Verdict, n: usize, is_map: bool) -> Result<bool, AllocError> {
-    let (name, map, record) = if is_map {
-        ("map", of.map.get(..n).unwrap_or(b""), of.record)
-    } else {
-        ("record", of.map, of.record.get(..n).unwrap_or(b""))
-    };
-    let line = format!(in alloc; "weave: {name}: form at {n}\n")?;
-    let cut = Verdict {
-        map,
-        record,
-        status: 3,
-        report: "",
-        line: line.as_str(),
-        ..*of
-    };
-    is_judged(alloc, &cut)
-}
-
-// The least number of first bytes of a map or a record that aren't refused at their end.
-fn wrong_cut(
-    alloc: Global,
-    of: &Verdict,
-    length: usize,
-    is_map: bool,
-) -> Result<Option<usize>, AllocError> {
-    for n in 0..length {
-        if !is_cut(alloc, of, n, is_map)? {
-            return Ok(Some(n));
-        }
-    }
-    Ok(None)
-}
-
-/// The least number of first bytes of the map that aren't refused at their end.
-pub fn wrong_map_cut(alloc: Global, of: &Verdict) -> Result<Option<usize>, AllocError> {
-    wrong_cut(alloc, of, of.map.len(), true)
-}
-
-/// The least number of first bytes of the record that aren't refused at their end.
-pub fn wrong_record_cut(alloc: Global, of: &Verdict) -> Result<Option<usize>, AllocError> {
-    wrong_cut(alloc, of, of.record.len(), false)
 }

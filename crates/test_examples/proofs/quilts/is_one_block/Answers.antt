@@ -1,7 +1,7 @@
 use Rattle.std.proofs.Common.{◌≡◌, arith, ap, sym}
 use Rattle.cells.specs.declared.place.Size.{Size}
 use Rattle.map_canvas.specs.Canvases.{CanvasState}
-use Rattle.test_places.proofs.quilts.is_one_block.Goals as goal
+use Rattle.test_examples.proofs.quilts.is_one_block.Goals as goal
 
 pub is_first_block-requires-clause-pictures : goal.is_first_block-requires-clause-pictures
 is_first_block-requires-clause-pictures c =

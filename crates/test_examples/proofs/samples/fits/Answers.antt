@@ -3,7 +3,7 @@ use Rattle.cells.specs.declared.place.Size.{Size}
 use Rattle.cells.specs.Boxes.{HasCells, HoldsBox}
 use Rattle.cells.specs.Cells.{Cells, IsOnePart}
 use Rattle.cells.proofs.PartBoxes.{held_box}
-use Rattle.test_places.proofs.samples.fits.Goals as goal
+use Rattle.test_examples.proofs.samples.fits.Goals as goal
 
 pub returns-then-inside : goal.returns-then-inside
 returns-then-inside c =

@@ -2,7 +2,7 @@ use Rattle.std.proofs.Common.{◌≡◌, subst}
 use Rattle.cells.specs.Places.{IsInside}
 use Rattle.patch_picks.specs.Picks.{listed_on}
 use Rattle.patch_place.proofs.Stepping.{all_fit_over, over_for}
-use Rattle.test_places.proofs.picks.candidates_for.Goals as goal
+use Rattle.test_examples.proofs.picks.candidates_for.Goals as goal
 
 pub candidates-requires-clause-inside : goal.candidates-requires-clause-inside
 candidates-requires-clause-inside c =

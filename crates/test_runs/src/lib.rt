@@ -28,7 +28,7 @@ mod failing;
 #[cfg(test)]
 mod great;
 #[cfg(test)]
-mod grown;
+mod growing;
 #[cfg(test)]
 mod hostile;
 #[cfg(test)]
@@ -58,4 +58,4 @@ mod transferred;
 #[cfg(test)]
 mod trials;
 #[cfg(test)]
-mod turned;
+mod turning;

@@ -32,16 +32,8 @@ fn put_before(stage: &mut Stage, sample: &[u8], second: &[u8]) -> Result<(), All
     put.and(stage.put_files(OUTPUTS))
 }
 
-// Whether the samples stay, and the other files are as they are to be.
-fn has_after(stage: &Stage, case: &Case) -> bool {
-    stage.has_file("s", case.sample)
-        & stage.has_file("t", case.second)
-        & stage.has_file("o", case.picture)
-        & stage.has_file("m", case.map)
-        & stage.has_file("r", case.record)
-}
-
-// Runs a case over a stage without a file, and says whether all is as it is to be.
+// Runs a case over a stage without a file, and says whether the samples stay, and all else is as it
+// is to be.
 fn holds_on(stage: &mut Stage, case: &Case) -> Result<bool, AllocError> {
     put_before(stage, case.sample, case.second)?;
     stage.fail(case.failing, 0)?;

@@ -17,7 +17,7 @@ use Rattle.job_words.specs.LoopWords.{IsLoopJob}
 use Rattle.job_words.specs.declared.loop_words.LoopJob.{LoopJob}
 use Rattle.loop_command.specs.declared.plan.LoopedClip.{LoopedClip}
 use Rattle.loop_command.specs.Loops.{IsClipIn, IsLoopMade, IsLoopSummary, MayRefuseLoop, frames_taken, loop_command, loop_files, loop_head, loop_of, loop_size, loop_stages}
-use Rattle.loop_command.specs.LoopHeadlines.{IsLoopedOutput, IsLoopedRecord, IsLoopedRun}
+use Rattle.loop_command.specs.LoopHeadlines.{IsLoopedOutput, IsLoopedRecord, IsLoopedRun, looped_summary}
 use Rattle.loop_command.proofs.Taken.{taken_cells}
 use Rattle.loop_command.proofs.Looping.{are_one}
 use Rattle.loop_command.proofs.LoopAccepted.{accepted}
@@ -60,6 +60,7 @@ module _ (job : LoopJob) (lawful : IsLoopJob job) (before after : Files) (looped
       record {
         least = found.least;
         first = found.first;
+        one = found.one;
         cost = looped.found.cost;
         cost_is = found.cost;
         tables = looped.found.tables;
@@ -79,3 +80,9 @@ module _ (job : LoopJob) (lawful : IsLoopJob job) (before after : Files) (looped
 pub looped_run : (job : LoopJob) → IsLoopJob job → (summary : Summary) (before after : Files) → WritesAll (loop_command job) summary before after → IsLoopedRun job before after
 looped_run job lawful summary before after (texts, (clip, read, (frames, (cells, (has, (found, made, texts_are, summary_is))))), wrote) =
     whole_run job lawful before after (loop_of clip found) read made (wrote ∙ ap (λ ts. written (pieces (loop_command job).writes ts) before) texts_are)
+
+-- its summary is the one that the command gives
+pub looped_told : (job : LoopJob) (lawful : IsLoopJob job) (summary : Summary) (before after : Files) (writes : WritesAll (loop_command job) summary before after)
+    → looped_summary (looped_run job lawful summary before after writes) ≡ summary
+unfolding looped_run whole_run
+looped_told job lawful summary before after (texts, (clip, read, (frames, (cells, (has, (found, made, texts_are, summary_is))))), wrote) = sym summary_is

@@ -10,6 +10,7 @@ use Rattle.source_map.specs.MapFiles.{IsFrameMap, frame_map_form, frame_source}
 use Rattle.y4m_clip.specs.declared.form.Clip.{Clip}
 use Rattle.y4m_clip.specs.Writing.{clip_form}
 use Rattle.loop_walk.specs.Walks.{BeginsFirst, IsLeastWalk, walk_cost}
+use Rattle.loop_walk.specs.FirstWalks.{IsFirstWalk}
 use Rattle.loop_walk.specs.Tables.{AreTightTables}
 use Rattle.loop_walk.specs.Records.{WalkStands}
 use Rattle.cert_file.specs.RecordFiles.{walk_file_form}
@@ -42,11 +43,12 @@ pub record IsLoopedOutput (job : LoopJob) (before after : Files) : Type 0 where
   pub out_file : content_of after job.names.out ≡ clip_form clip.form picture
 
 -- and the frames are a closed walk of the asked length with the job's filter and gap, such that none
--- of that length costs less. It begins at the smallest frame that any such walk visits. The record
--- file has it, and its record stands and is tight
+-- of that length costs less. It begins at the smallest frame that any such walk visits, and of all
+-- such walks it comes first. The record file has it, and its record stands and is tight
 pub record IsLoopedRecord (job : LoopJob) (sample : Cells) (walk text : List ℕ) : Type 0 where
   pub least : IsLeastWalk (steps_over job sample) job.length walk
   pub first : BeginsFirst (steps_over job sample) job.length walk
+  pub one : IsFirstWalk (steps_over job sample) job.length walk
   pub cost : ℕ
   pub cost_is : walk_cost (steps_over job sample) walk ≡ Some cost
   pub tables : List ℕ
@@ -71,13 +73,26 @@ abbrev pub looped_summary : {job : LoopJob} {before after : Files} → IsLoopedR
 looped_summary {job} run =
     Loop job.length (slice_index run.output.walk 0) run.walk_record.cost
 
--- there is one list of tables and one summary, whichever run of the job it is that ends so, from
--- files with the same sample; of the walks that begin at one frame any may be taken
-pub record IsOneLoop (job : LoopJob) (summary : Summary) (before : Files) : Type 0 where
+-- a run of the job has this walk, these tables and this summary, and its out file, map file and
+-- record file have the same bytes as in other files
+pub record HasSameLoop (job : LoopJob) {earlier later : Files} (run : IsLoopedRun job earlier later)
+    (walk tables : List ℕ) (summary : Summary) (files : Files) : Type 0 where
+  pub walk_is : run.output.walk ≡ walk
+  pub tables_are : run.walk_record.tables ≡ tables
+  pub told : looped_summary run ≡ summary
+  pub out : content_of later job.names.out ≡ content_of files job.names.out
+  pub map : content_of later job.names.map ≡ content_of files job.names.map
+  pub record_file : content_of later job.names.record_file
+      ≡ content_of files job.names.record_file
+
+-- there is one walk, one list of tables and one summary, and each written file has one text,
+-- whichever run of the job it is that ends so, from files with the same sample
+pub record IsOneLoop (job : LoopJob) (summary : Summary) (before after : Files) : Type 0 where
+  pub walk : List ℕ
   pub tables : List ℕ
   pub same : (earlier later : Files) (run : IsLoopedRun job earlier later)
       → content_of earlier job.names.sample ≡ content_of before job.names.sample
-      → (run.walk_record.tables ≡ tables) × (looped_summary run ≡ summary)
+      → HasSameLoop job run walk tables summary after
 
 -- whenever `loop` ends with status 0
 abbrev pub LoopHeadline : List (List ℕ) → ShelfState → ShelfState → ℕ → Type 0
@@ -85,9 +100,10 @@ LoopHeadline words was now status =
     (job : LoopJob) → job_of words ≡ Ok (LoopAsked job) → status ≡ 0
     → Changes was now (IsLoopedRun job)
 
--- the report and the tables of the record are a function of the words and the sample file
+-- the out file, the map file, the record file and the report are a function of the words and the
+-- sample file
 abbrev pub OneLoop : List (List ℕ) → ShelfState → ShelfState → SinkState → SinkState → ℕ → Type 0
 OneLoop words was now out out' status =
     (job : LoopJob) → job_of words ≡ Ok (LoopAsked job) → status ≡ 0
     → (summary : Summary) × Reported summary out out'
-    × Changes was now (λ before after. IsOneLoop job summary before)
+    × Changes was now (IsOneLoop job summary)

@@ -19,6 +19,7 @@ use Rattle.loop_walk.specs.declared.record.LoopError.{LoopError}
 use Rattle.loop_walk.specs.declared.record.LoopError.TheVariants as error
 use Rattle.loop_walk.specs.declared.record.LoopRecord.{LoopRecord}
 use Rattle.loop_walk.specs.Walks.{BeginsFirst, HasNoWalk, IsClosedWalk, IsLeastWalk, walk_cost}
+use Rattle.loop_walk.specs.FirstWalks.{IsFirstWalk}
 use Rattle.loop_walk.specs.Tables.{AreTightTables}
 use Rattle.loop_walk.specs.Records.{WalkStands}
 use Rattle.cert_file.specs.RecordFiles.{walk_file_form}
@@ -57,11 +58,13 @@ map_of_frames size frames =
 abbrev pub frames_taken : Cells → List ℕ → Cells
 frames_taken sample walk = picture_of (map_of_frames (loop_size sample (length walk)) walk) sample
 
--- a least closed walk of the asked length, from the smallest frame that any such walk visits, with
--- its cost and the tables that show that it is least, of numbers as wide as their types
+-- a least closed walk of the asked length, from the smallest frame that any such walk visits, and the
+-- first of them by the middles of its parts; with its cost and the tables that show that it is least,
+-- of numbers as wide as their types
 pub record IsLoopFound (job : LoopJob) (sample : Cells) (found : LoopRecord) : Type 0 where
   pub least : IsLeastWalk (steps_over job sample) job.length found.walk
   pub first : BeginsFirst (steps_over job sample) job.length found.walk
+  pub one : IsFirstWalk (steps_over job sample) job.length found.walk
   pub cost : walk_cost (steps_over job sample) found.walk ≡ Some found.cost
   pub tight : AreTightTables (steps_over job sample) job.length found.tables
   pub stands : WalkStands (steps_over job sample) found.walk found.tables

@@ -11,7 +11,7 @@ use Rattle.loop_walk.specs.Tables.{EntriesHold, EntryHolds, IsBelowSums, entry_a
 use Rattle.loop_walk.specs.Records.{IsFirstPlace, PlaceHolds}
 use Rattle.loop_walk.specs.Products.{IsBelowProducts}
 use Rattle.loop_walk.proofs.Lengths.{earlier_length}
-use Rattle.loop_walk.proofs.TraceLaws.{cost_of-append}
+use Rattle.loop_walk.proofs.WayLaws.{cost_of-append}
 
 steps_along-at : (from : ℕ) (rest : List ℕ) (to p : ℕ) → p < suc (length rest) → get_or (steps_along from rest to) p (0, 0) ≡ (get_or (from ∷ rest) p 0, get_or (rest ++ to ∷ []) p 0)
 steps_along-at from [] to zero lt = refl

@@ -4,6 +4,8 @@ pub mod ProductLaws
 pub mod StepTable
 pub mod TableLaws
 pub mod WayLaws
+pub mod FirstLaws
+pub mod FirstWays
 pub mod TraceLaws
 pub mod RecordLaws
 pub mod CheckLaws

@@ -1,6 +1,6 @@
 -- Ways from frame to frame, and what the tables say of them: an entry is at most the cost of each way
 -- of its length.
-use Rattle.std.proofs.Common.{◌≡◌, ℕ, zero, suc, ◌+◌, ◌-◌, ◌*◌, ◌%◌, ◌<◌, ◌≤◌, List, [], ◌∷◌, length, get_or, refl, ap, sym, ◌∙◌, subst, arith, ⊎_elim}
+use Rattle.std.proofs.Common.{◌≡◌, ℕ, zero, suc, ◌+◌, ◌-◌, ◌*◌, ◌%◌, ◌<◌, ◌≤◌, List, [], ◌∷◌, ◌++◌, length, get_or, refl, ap, sym, ◌∙◌, subst, arith, ⊎_elim}
 use Rattle.std.specs.Prelude.{Option, Some, None, IsSome, is_some, All, ◌&&◌, nat_lt, if◌then◌else◌, slice_index_or}
 use Rattle.std.proofs.lemmas.Option.{same_Some}
 use Rattle.std.proofs.lemmas.Bool.{cases_eq, cases_lt, cases_Bool, and_parts, ltb-true, false≢true}
@@ -32,6 +32,25 @@ has_some (Some x) some = (x, refl)
 
 pub some_is : (o : Option ℕ) (x : ℕ) → o ≡ Some x → IsSome o
 some_is o x is = ap is_some is
+
+zero-plus : (o : Option ℕ) → sum_if_both (Some 0) o ≡ o
+zero-plus None = refl
+zero-plus (Some a) = ap Some (let e : 0 + a ≡ a = omega arith in e)
+
+plus-assoc : (a b c : Option ℕ) → sum_if_both a (sum_if_both b c) ≡ sum_if_both (sum_if_both a b) c
+plus-assoc None b c = refl
+plus-assoc (Some a) None c = refl
+plus-assoc (Some a) (Some b) None = refl
+plus-assoc (Some a) (Some b) (Some c) = ap Some (let e : a + (b + c) ≡ a + b + c = omega arith in e)
+
+pub cost_of-append : (costs : Steps) (xs ys : List (ℕ × ℕ)) → steps_cost costs (xs ++ ys) ≡ sum_if_both (steps_cost costs xs) (steps_cost costs ys)
+cost_of-append costs [] ys = sym (zero-plus (steps_cost costs ys))
+cost_of-append costs (x ∷ xs) ys =
+    ap (sum_if_both (step_at costs x.0 x.1)) (cost_of-append costs xs ys) ∙ plus-assoc (step_at costs x.0 x.1) (steps_cost costs xs) (steps_cost costs ys)
+
+pub steps_along-append : (i v j : ℕ) (xs ys : List ℕ) → steps_along i (xs ++ v ∷ ys) j ≡ steps_along i xs v ++ steps_along v ys j
+steps_along-append i v j [] ys = refl
+steps_along-append i v j (x ∷ xs) ys = ap (λ l. (i, x) ∷ l) (steps_along-append x v j xs ys)
 
 module _ (costs : Steps) where
   -- a way of so many steps, and its cost

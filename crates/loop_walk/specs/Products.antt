@@ -1,9 +1,11 @@
 -- What the code keeps within the crate, which no public clause needs: numbers of 64 bits, of which
 -- the greatest stands for none and a sum stops at it.
-use Rattle.std.specs.Prelude.{◌≡◌, ◌≤◌, ◌<◌, ◌⊎◌, ℕ, ◌+◌, ◌-◌, ◌*◌, ◌^◌, zero, suc, min, List, ◌++◌, length, take, drop, Option, Some, None, slice_index, slice_index_or}
+use Rattle.std.specs.Prelude.{◌≡◌, ◌≤◌, ◌<◌, ◌⊎◌, ℕ, ◌+◌, ◌-◌, ◌*◌, ◌^◌, zero, suc, min, List, ◌∷◌, ◌++◌, length, take, drop, Option, Some, None, slice_index, slice_index_or}
 use Rattle.frame_distance.specs.Steps.{Steps, step_at}
 use Rattle.loop_walk.specs.declared.product.TheConstants.{FAR, GREATEST_NUMBER}
 use Rattle.loop_walk.specs.Walks.{AtMost, BeginsFirst, IsLeastWalk, steps_cost, sum_if_both, steps_along, steps_round, walk_cost}
+use Rattle.loop_walk.specs.FirstWalks.{ComesFirst, IsFirstWalk, middles}
+use Rattle.loop_walk.specs.Records.{WalkStands}
 use Rattle.loop_walk.specs.Tables.{table_size, entry_at, entry_count, none_number, table_entry, table_count, AreTightTables, EntriesAreTight, IsBelowSums}
 
 -- the sum that stops at none
@@ -83,12 +85,20 @@ pub record IsStepTable (costs : Steps) (table : List ℕ) : Type 0 where
       table_entry (slice_index table (i * costs.frames + j)) ≡ step_at costs i j
   pub small : AreSmall (2 ^ 46) table
 
--- the frames of a way from frame i to frame j, between the two, are added to a walk
+-- a way from frame i to frame j, of which the frames between the two are given, comes first of all
+-- ways of m steps at that cost
+abbrev pub IsFirstWay : Steps → ℕ → ℕ → ℕ → Option ℕ → List ℕ → Type 0
+IsFirstWay costs m i j cost between = (other : List ℕ) → suc (length other) ≡ m
+    → steps_cost costs (steps_along i other j) ≡ cost
+    → ComesFirst (middles m) (i ∷ between) (i ∷ other)
+
+-- the frames of the first way from frame i to frame j, between the two, are added to a walk
 pub record AddsWay (costs : Steps) (m i j : ℕ) (cost : Option ℕ) (old new : List ℕ) : Type 0 where
   pub between : List ℕ
   pub added : new ≡ old ++ between
   pub steps : suc (length between) ≡ m
   pub costs_so_much : steps_cost costs (steps_along i between j) ≡ cost
+  pub first : IsFirstWay costs m i j cost between
 
 -- a step as a number of a table
 abbrev pub step_number : Option ℕ → ℕ
@@ -114,12 +124,15 @@ pub record HoldsTables (costs : Steps) (len : ℕ) (tables : List ℕ) : Type 0 
   pub tight : EntriesAreTight costs len tables
   pub small : AreSmall (2 ^ 58) tables
 
--- a walk of so many frames from one, round at the cost that the last table says
+-- the first walk of so many frames from one, round at the cost that the last table says
 pub record GoesRound (costs : Steps) (len : ℕ) (tables : List ℕ) (first : ℕ)
     (walk : List ℕ) : Type 0 where
   pub frames : length walk ≡ len
   pub begins : slice_index walk 0 ≡ first
   pub cost : walk_cost costs walk ≡ entry_at costs tables (table_count len) first first
+  pub before : (other : List ℕ) → length other ≡ len → slice_index other 0 ≡ first
+      → walk_cost costs other ≡ entry_at costs tables (table_count len) first first
+      → ComesFirst (middles len) walk other
 
 -- an entry is at most the sums with second halves of another table
 abbrev pub IsBelowProducts : Steps → List ℕ → ℕ → ℕ → ℕ → ℕ → Type 0
@@ -152,12 +165,13 @@ abbrev pub AllowsCost : Steps → ℕ → List ℕ → ℕ → ℕ → Type 0
 AllowsCost costs len tables cost i =
     AtMost (Some cost) (entry_at costs tables (table_count len) i i)
 
--- a least closed walk and its cost, which is at most each diagonal entry of the last table
+-- the first of the least closed walks and its cost, and its record stands
 pub record FindsLeast (costs : Steps) (len : ℕ) (tables walk : List ℕ) (cost : ℕ) : Type 0 where
   pub least : IsLeastWalk costs len walk
   pub first : BeginsFirst costs len walk
+  pub one : IsFirstWalk costs len walk
   pub cost_is : walk_cost costs walk ≡ Some cost
-  pub diagonals : (i : ℕ) → i < costs.frames → AllowsCost costs len tables cost i
+  pub stands : WalkStands costs walk tables
 
 -- the step round a walk at a position
 abbrev pub step_round_at : Steps → List ℕ → ℕ → Option ℕ

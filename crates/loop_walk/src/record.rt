@@ -1,6 +1,7 @@
 // The least closed walk of a length, and its record.
 ghost use Rattle.std.specs.Prelude.{◌≡◌, ◌≤◌, ◌<◌, ℕ, ◌+◌, ◌*◌, Some, IfOk, IfErr, IsSome, length as length_of};
 ghost use Rattle.loop_walk.specs.Walks.{BeginsFirst, HasNoWalk, IsLeastWalk, walk_cost};
+ghost use Rattle.loop_walk.specs.FirstWalks.{IsFirstWalk};
 ghost use Rattle.loop_walk.specs.Tables.{AreTightTables, IsLength, entry_at, table_count};
 ghost use Rattle.loop_walk.specs.Records.{WalkStands};
 ghost use Rattle.loop_walk.specs.Products.{AreFilled, FindsLeast, GoesRound, HoldsTables, IsStepTable, diagonal};
@@ -136,11 +137,14 @@ fn least_walk(
 }
 
 /// The closed walk of `length` frames that costs least, with its record. It begins at the smallest
-/// frame that any least closed walk of that length visits; which of those walks it is isn't said.
+/// frame that any least closed walk of that length visits. Of several such walks it is the one with
+/// the smallest frame at the middle of the walk, then at those of its first half, then of its second
+/// (specs/FirstWalks.antt).
 pub fn least_loop(alloc: Global, costs: &StepCosts, length: u32) -> Result<LoopRecord, LoopError>
     requires { IsLength length }
     ensures least { IfOk result (λ made. IsLeastWalk costs.now length made.walk) }
     ensures first { IfOk result (λ made. BeginsFirst costs.now length made.walk) }
+    ensures one { IfOk result (λ made. IsFirstWalk costs.now length made.walk) }
     ensures cost { IfOk result (λ made. walk_cost costs.now made.walk ≡ Some made.cost) }
     ensures tight { IfOk result (λ made. AreTightTables costs.now length made.tables) }
     ensures stands { IfOk result (λ made. WalkStands costs.now made.walk made.tables) }

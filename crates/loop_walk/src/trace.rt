@@ -21,7 +21,7 @@ fn sum_through(n: usize, left: &[u64], right: &[u64], i: usize, j: usize, v: usi
     left[i * n + v].saturating_add(right[v * n + j])
 }
 
-// A frame through which a way of least cost goes.
+// The smallest frame through which a way of least cost goes.
 fn middle(n: usize, left: &[u64], right: &[u64], i: usize, j: usize) -> usize
     requires few { n ≤ MOST_LOOP_FRAMES }
     requires left { length_of left.now ≡ n * n }
@@ -31,6 +31,8 @@ fn middle(n: usize, left: &[u64], right: &[u64], i: usize, j: usize) -> usize
     ensures below { result < n }
     ensures least { (v : ℕ) → v < n →
         sum_through n left.now right.now i j result ≤ sum_through n left.now right.now i j v }
+    ensures first { (v : ℕ) → v < result →
+        sum_through n left.now right.now i j result < sum_through n left.now right.now i j v }
 {
     let mut best = 0;
     for v in 1..n {
@@ -42,7 +44,7 @@ fn middle(n: usize, left: &[u64], right: &[u64], i: usize, j: usize) -> usize
 }
 
 /// Adds to a walk the frames between frame i and frame j on a way of so many steps, at the cost that
-/// the tables say. It halves the way as the tables doubled it.
+/// the tables say. It halves the way as the tables doubled it, at the smallest frame that serves.
 pub fn add_way(
     costs: &StepCosts,
     steps: &[u64],

@@ -4,6 +4,7 @@ use Rattle.std.specs.Prelude.{Some}
 use Rattle.frame_distance.specs.Steps.{steps_of}
 use Rattle.loop_walk.specs.declared.record.LoopError.TheVariants as error
 use Rattle.loop_walk.specs.Walks.{BeginsFirst, HasNoWalk, IsLeastWalk, walk_cost}
+use Rattle.loop_walk.specs.FirstWalks.{IsFirstWalk}
 use Rattle.loop_walk.specs.Tables.{AreTightTables}
 use Rattle.loop_walk.specs.Records.{WalkStands}
 use Rattle.cert_file.specs.WalkForms.{AreWide}
@@ -25,6 +26,7 @@ returns-clause-found c =
     record {
       least = subst (λ steps. IsLeastWalk steps job.length found.walk) steps_are made.least;
       first = subst (λ steps. BeginsFirst steps job.length found.walk) steps_are made.first;
+      one = subst (λ steps. IsFirstWalk steps job.length found.walk) steps_are made.one;
       cost = subst (λ steps. walk_cost steps found.walk ≡ Some found.cost) steps_are made.cost;
       tight = subst (λ steps. AreTightTables steps job.length found.tables) steps_are made.tight;
       stands = subst (λ steps. WalkStands steps found.walk found.tables) steps_are made.stands;

@@ -7,7 +7,7 @@ use Rattle.loop_walk.specs.Tables.{entry_at, table_count, second_table}
 use Rattle.loop_walk.specs.Products.{AddsWay, table_in}
 use Rattle.loop_walk.proofs.Lengths.{IsBefore, is_before}
 use Rattle.loop_walk.proofs.TableLaws.{length-table_in}
-use Rattle.loop_walk.proofs.TraceLaws.{both_some, fits, fits_second, halves, holds_before, holds_rest, on_ok, second_count, ways_joined}
+use Rattle.loop_walk.proofs.TraceLaws.{both_some, fits, fits_second, halves, holds_before, holds_rest, joins_first, on_ok, second_count, ways_joined}
 use Rattle.loop_walk.proofs.trace.+add_way.Goals as goal
 
 pub table_in-left-requires-clause-there : goal.table_in-left-requires-clause-there
@@ -94,7 +94,11 @@ returns t c =
     on_ok c.add_way-2.result _ (AddsWay costs m c.args.i c.args.j (entry_at costs c.args.tables.now (table_count m) c.args.i c.args.j) c.args.walk.now.items c.add_way-2.new.walk.items)
     (λ (second : AddsWay costs (m - b) v c.args.j (entry_at costs c.args.tables.now (table_count (m - b)) v c.args.j) c.push.new.self.items c.add_way-2.new.walk.items).
     ways_joined costs m b (m - b) c.args.i v c.args.j (entry_at costs c.args.tables.now (table_count b) c.args.i v) (entry_at costs c.args.tables.now (table_count (m - b)) v c.args.j) (entry_at costs c.args.tables.now (table_count m) c.args.i c.args.j)
-    c.args.walk.now.items c.add_way.new.walk.items c.push.new.self.items c.add_way-2.new.walk.items (omega (arith, lengths.less)) whole c.in_ok-add_way.ensures c.in_ok-push.ensures.items second)
+    c.args.walk.now.items c.add_way.new.walk.items c.push.new.self.items c.add_way-2.new.walk.items (omega (arith, lengths.less)) whole
+    (joins_first costs m b s two c.length_before-before.ensures c.table_count-t.ensures.count c.args.steps.now c.requires.steps c.args.tables.now c.requires.tables c.args.i c.args.j v c.requires.from c.requires.to below c.requires.there
+    (rw (c.frames-n.ensures.frames, c.table_in-left.ensures, c.table_in-right.ensures, c.second_table.ensures) at c.middle-v.ensures.least)
+    (rw (c.frames-n.ensures.frames, c.table_in-left.ensures, c.table_in-right.ensures, c.second_table.ensures) at c.middle-v.ensures.first))
+    c.in_ok-add_way.ensures c.in_ok-push.ensures.items second)
     c.add_way-2.ensures
 
 -- a table of so many frames at most is short

@@ -17,6 +17,12 @@ stays a b x y is_a is_b le = omega arith
 same : (x : ℕ) → x ≤ x
 same x = omega arith
 
+higher : (a b x y s : ℕ) → a ≡ x → b ≡ y → a < b → y ≤ s → x < s
+higher a b x y s is_a is_b less below = omega arith
+
+pub returns-clause-first : goal.returns-clause-first
+returns-clause-first c = grind (arith, common_steps)
+
 pub loop-v-preserved : goal.loop-v-preserved
 loop-v-preserved c =
     let sum : ℕ → ℕ = λ u. sum_through c.args.n c.args.left.now c.args.right.now c.args.i c.args.j u in
@@ -30,12 +36,15 @@ loop-v-preserved c =
             (below_more (λ u. sum v ≤ sum u) v
             (λ u lt. lower c.sum_through.result c.sum_through-in-loop-v.result (sum v) (sum best) (sum u) c.sum_through.ensures c.sum_through-in-loop-v.ensures w.if-sum_through.true (least u lt))
             (same (sum v)));
+        first = subst (λ b. (u : ℕ) → u < b → sum b < sum u) (sym w.best-is)
+            (λ u lt. higher c.sum_through.result c.sum_through-in-loop-v.result (sum v) (sum best) (sum u) c.sum_through.ensures c.sum_through-in-loop-v.ensures w.if-sum_through.true (least u lt));
       }
       | else-sum_through w ↦ record {
         below = omega (arith, w.best-is, c.loop-v.invariant.below);
         least = subst (λ b. (u : ℕ) → u < v + 1 → sum b ≤ sum u) (sym w.best-is)
             (below_more (λ u. sum best ≤ sum u) v least
             (stays c.sum_through.result c.sum_through-in-loop-v.result (sum v) (sum best) c.sum_through.ensures c.sum_through-in-loop-v.ensures w.if-sum_through.false));
+        first = subst (λ b. (u : ℕ) → u < b → sum b < sum u) (sym w.best-is) c.loop-v.invariant.first;
       }
     ]
 
@@ -47,4 +56,5 @@ loop-v-init c =
       least = λ u lt.
           let first : 0 ≡ u = omega arith in
           subst (λ k. sum 0 ≤ sum k) first (same (sum 0));
+      first = λ u lt. absurd (omega (arith, lt));
     }

@@ -1,6 +1,10 @@
 -- What `check` made of files, by its status.
-use Rattle.std.proofs.Common.{◌≡◌, ℕ, Bool, List, [], sym, ap, ◌∙◌, subst, arith}
-use Rattle.shelf_traits.specs.Files.{Files, ShelfState, SinkState, Changes}
+use Rattle.std.proofs.Common.{◌≡◌, ℕ, Bool, true, List, [], refl, sym, ap, ◌∙◌, subst, arith}
+use Rattle.std.specs.Prelude.{Option, Some, None, is_some}
+use Rattle.cells.specs.declared.place.At.{At}
+use Rattle.cells.specs.Places.{index_in, place_of}
+use Rattle.cells.proofs.Raster.{index_below, index_parts, one_place, place_at}
+use Rattle.shelf_traits.specs.Files.{Files, ShelfState, SinkState, Changes, content_of}
 use Rattle.shelf_traits.specs.Written.{written}
 use Rattle.shelf_traits.proofs.FileLaws.{told_weaker}
 use Rattle.job_words.specs.declared.check.CheckJob.{CheckJob}
@@ -12,11 +16,17 @@ use Rattle.command.specs.Outcomes.{WritesAll}
 use Rattle.command.specs.Writing.{Reported}
 use Rattle.standing_files.specs.declared.verdict.Verdict.{Verdict}
 use Rattle.standing_files.specs.declared.verdict.Verdict.TheVariants.{Stands, Fails}
-use Rattle.standing_files.specs.Standing.{IsVerdict, map_output}
+use Rattle.standing_files.specs.Standing.{IsCopied, IsVerdict, map_output, named_source}
 use Rattle.standing_files.proofs.Least.{records_least}
-use Rattle.check_command.specs.CheckHeadlines.{HaveLeastRecords}
-use Rattle.check_command.specs.Checks.{AreRunFiles, Break, IsCheckSummary, ReadFiles, Stand, check_command, summary_of}
-use Rattle.check_command.proofs.Staged.{IsJudged, judged_of, made_of}
+use Rattle.cert_file.specs.RecordFiles.{record_file_read}
+use Rattle.command.proofs.Staging.{read_by}
+use Rattle.sample_files.specs.declared.several.Samples.{Samples}
+use Rattle.sample_files.specs.Several.{contents, of_samples}
+use Rattle.sample_files.specs.Worked.{worked_samples}
+use Rattle.sample_files.proofs.OneAnswer as several
+use Rattle.check_command.specs.CheckHeadlines.{AreReadAs, HasNamedCells, HaveLeastRecords}
+use Rattle.check_command.specs.Checks.{AreRunFiles, Break, IsCheckSummary, ReadFiles, Stand, StandForWorked, check_command, run_map_read, summary_of}
+use Rattle.check_command.proofs.Staged.{IsJudged, judged_of, made_of, same_out}
 
 -- it writes no file
 unchanged : (job : CheckJob) (texts : List (List ℕ)) (before after : Files) → after ≡ written (Rattle.command.specs.Writing.pieces (check_command job).writes texts) before → after ≡ before
@@ -66,9 +76,45 @@ module _ (job : CheckJob) (said : Summary) where
               let its = judged_of job.turns job.names before texts said makes in
               (unchanged job texts before after wrote, judged_so before its.values its.are its.verdict its.judged (sym is ∙ its.summary_is))
 
--- and are least
-pub least_records : (turns : Bool) (names : Names) (files : Files) → Stand turns names files → HaveLeastRecords turns names files
-least_records turns names files s = record { values = s.values; read = s.read; least = records_least s.values.samples.volume (map_output s.values.map) s.values.record_file s.stand.records }
+-- What files stand for.
+
+module _ (turns : Bool) (names : Names) (files : Files) where
+  one_worked : (one other : Samples) → StandForWorked turns names files one → StandForWorked turns names files other → one ≡ other
+  one_worked one other a b =
+      a.is ∙ ap (worked_samples turns) (several.one_value (of_samples turns) (content_of files names.sample) (contents files names.more) a.samples b.samples a.stand b.stand) ∙ sym b.is
+
+  -- they stand for one list of values
+  one_reading : (one other : ReadFiles) → AreRunFiles turns names files one → AreRunFiles turns names files other → one ≡ other
+  one_reading one other a b =
+      let samples = one_worked one.samples other.samples a.samples b.samples in
+      let out = same_out (content_of files names.out) one.out other.out a.out b.out in
+      let map_file = (read_by (run_map_read turns)).one_value (content_of files names.map) one.map other.map a.map b.map in
+      let record_file = (read_by record_file_read).one_value (content_of files names.record_file) one.record_file other.record_file a.record_file b.record_file in
+      λ k. record { samples = samples k; out = out k; map = map_file k; record_file = record_file k }
+
+  read_as : (values : ReadFiles) → AreRunFiles turns names files values → AreReadAs turns names files values
+  read_as values are = record { are = are; only = λ other read. one_reading other values read are }
+
+  -- where they stand each cell is copied
+  pub named_cells : Stand turns names files → HasNamedCells turns names files
+  named_cells s = record {
+    values = s.values;
+    read = read_as s.values s.read;
+    size = s.stand.together.map_sizes.output_is;
+    cells = λ p inside. at p (index_in (map_output s.values.map) p) refl inside;
+  }
+    where
+      at : (p : At) (i : Option ℕ) → index_in (map_output s.values.map) p ≡ i → is_some i ≡ true → IsCopied s.values.samples.volume s.values.out.volume (named_source s.values.map p) p
+      at p None is inside = absurd (cc)
+      at p (Some i) is inside =
+          let its = index_parts (map_output s.values.map) p i is in
+          let below = index_below (map_output s.values.map) p i is in
+          let there = place_at (map_output s.values.map) i (omega (arith, its.x_on.below)) (omega (arith, its.y_on.below)) below in
+          subst (λ q. IsCopied s.values.samples.volume s.values.out.volume (named_source s.values.map q) q) (one_place (map_output s.values.map) (place_of (map_output s.values.map) i) p i there is) (s.stand.copied i below)
+
+  -- and the records are least
+  pub least_records : Stand turns names files → HaveLeastRecords turns names files
+  least_records s = record { values = s.values; read = read_as s.values s.read; least = records_least s.values.samples.volume (map_output s.values.map) s.values.record_file s.stand.records }
 
 -- and where they do, this is made of them
 pub made_standing : (job : CheckJob) (files : Files) → Stand job.turns job.names files → (check_command job).Makes files [] (summary_of Stands)

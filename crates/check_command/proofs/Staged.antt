@@ -57,7 +57,7 @@ known_samples n (Words fault) may = may
 
 -- Each stage has one answer.
 
-same_out : (bytes : List ℕ) (one other : Sample) → IsOut bytes one → IsOut bytes other → one ≡ other
+pub same_out : (bytes : List ℕ) (one other : Sample) → IsOut bytes one → IsOut bytes other → one ≡ other
 same_out bytes one other a b =
     let same = one_sample MOST_OUT_CLIP_CELLS bytes one.form other.form one.volume other.volume a b in
     ap (λ f. record one { form = f }) same.form_is ∙ ap (λ v. record other { volume = v }) same.cells_are

@@ -3,7 +3,7 @@ use Rattle.std.proofs.Common.{◌≡◌, ℕ, ◌⊎◌, inl, inr, List, ap, sym
 use Rattle.std.specs.Prelude.{Result, Ok, Err}
 use Rattle.shelf_traits.specs.Files.{Files, ShelfState, SinkState, OnlyReads, OnlyWrites, Changes, Rose}
 use Rattle.shelf_traits.specs.Written.{Untouched, StoppedAt, written}
-use Rattle.shelf_traits.proofs.FileLaws.{AreAmong, among_left, among_right, asks_of_more, asks_then, told_same, told_then}
+use Rattle.shelf_traits.proofs.FileLaws.{AreAmong, among_left, among_right, asks_of_more, asks_then, only_writes_same, told_same, told_then}
 use Rattle.synth_report.specs.declared.fault.FileOf.{FileOf}
 use Rattle.synth_report.specs.declared.fault.Fault.{Fault}
 use Rattle.synth_report.specs.declared.fault.Fault.TheVariants.{Words, Form, Unlike, Mark, Limit, Read, Write, NoMemory, NoLoop}
@@ -20,6 +20,7 @@ module _ (c : Command) (a b : ShelfState) where
   not_planned reads out fault left = record {
     ends = by fault left (record { files = reads.files; added = told_same out.bytes });
     asked = asks_of_more (names_in c.reads) (names_of c) a b (among_left (names_in c.reads) (names_in c.writes)) reads.asked;
+    halves = record { between = b; reads = reads; writes = only_writes_same b };
   }
     where
       by : (fault : Fault) → NotMade c a b fault → Untouched a b out out → Ends c a b out out (Err fault)
@@ -85,4 +86,5 @@ module _ (c : Command) (files : List FileText) (summary : Summary) (a b d : Shel
   planned answer wrote = record {
     ends = ended answer wrote;
     asked = asks_then (names_of c) a b d (asks_of_more (names_in c.reads) (names_of c) a b (among_left (names_in c.reads) (names_in c.writes)) reads.asked) (asks_of_more (text_names files) (names_of c) b d own_names writes.asked);
+    halves = record { between = b; reads = reads; writes = subst (λ named. OnlyWrites (names_in named) b d) made.named writes };
   }

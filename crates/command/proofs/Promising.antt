@@ -16,8 +16,8 @@ use Rattle.synth_report.specs.declared.summary.Summary.{Summary}
 use Rattle.synth_report.specs.Texts.{fault_line, status_of, summary_status, words_status}
 use Rattle.command.specs.Commands.{Command, HasOneAnswer, HasTurn, NamedFile, names_of}
 use Rattle.command.specs.Writing.{pieces}
-use Rattle.command.specs.Outcomes.{AreRefused, Commands, IsFinished, IsStopped, IsUnread, IsUnreported, RefusesWords, Runs, RunsJob, SaysAnswer, WritesAll, WritesUpTo, answer_status}
-use Rattle.command.specs.Promises.{Asks, DoneStatus, HasDone, HasFailedToRead, HasFailedToWrite, HasRefused, IsComplete, IsNotWritten, IsRunStatus, KeepsFiles, KeepsOthers, MemoryStatus, NamedFiles, NoneRose, ReadStatus, RefusedStatus, TellsFiles, WordsStatus, WriteStatus}
+use Rattle.command.specs.Outcomes.{AreRefused, Commands, IsFinished, IsStopped, IsUnread, IsUnreported, ReadsThenWrites, RefusesWords, Runs, RunsJob, SaysAnswer, WritesAll, WritesUpTo, answer_status}
+use Rattle.command.specs.Promises.{Asks, DoneStatus, HasDone, HasFailedToRead, HasFailedToWrite, HasRefused, IsComplete, IsNotWritten, IsRunStatus, KeepsFiles, KeepsOthers, MemoryStatus, NamedFiles, NoneRose, ReadStatus, ReadsFirst, RefusedStatus, SaysNothing, TellsFiles, WordsStatus, WriteStatus}
 use Rattle.command.proofs.Views.{IsRefusal, View, done_or_failed, refusal_number, told_at, two_or_seven, viewed, words_two}
 use Rattle.command.proofs.Views.View.{done, refused, unread, unwritten, out_of_memory}
 
@@ -188,6 +188,9 @@ module _ (commands : Commands) (one : (job : Job) → IsJob job → HasOneAnswer
           let own = as_asked ran.answer left job asks in
           subst (λ n. (n ≡ summary_status summary) ⊎ (n ≡ 5) ⊎ (n ≡ 6) ⊎ (n ≡ 7)) (sym ran.number)
           (made_answer (commands job) own.1 was now out out' files told ran.answer own.0 texts summary makes)
+
+  pub silence_promise : Runs commands words was now out out' err err' status → SaysNothing err err' status
+  silence_promise ran is = let has : HasDone commands words was now out out' err err' status = (done_promise ran).only is in has.silent
 
   -- STATUS 2
   words_only : (answer : Result Summary Fault) → SaysAnswer answer err err' → status ≡ answer_status answer → status ≡ 2 → RefusesWords words was now out out' answer
@@ -387,3 +390,10 @@ module _ (commands : Commands) (one : (job : Job) → IsJob job → HasOneAnswer
       of_none : RefusesWords words was now out out' ran.answer ⊎ RunsJob commands words was now out out' ran.answer → (fault : WordFault) → job_of words ≡ Err fault → AsksOnly [] was now
       of_none (inl left) fault refuses = left.unasked
       of_none (inr left) fault refuses = absurd (ok_is (job_of words) left.job fault left.asked refuses)
+
+  pub halves_promise : Runs commands words was now out out' err err' status → ReadsFirst commands words was now
+  halves_promise ran job asks = by ran.left
+    where
+      by : RefusesWords words was now out out' ran.answer ⊎ RunsJob commands words was now out out' ran.answer → AsksOnly [] was now ⊎ ReadsThenWrites (commands job) was now
+      by (inl left) = inl left.unasked
+      by (inr left) = inr (subst (λ j. ReadsThenWrites (commands j) was now) (one_ok (job_of words) left.job job left.asked asks) left.left.halves)

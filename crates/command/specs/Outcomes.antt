@@ -1,7 +1,7 @@
 -- What a run leaves, by its answer: for any command, one line for each answer. To be trusted:
 -- contracts cite these words. (Own.)
 use Rattle.std.specs.Prelude.{◌≡◌, ◌≤◌, ◌⊎◌, ℕ, List, [], map, Result, Ok, Err}
-use Rattle.shelf_traits.specs.Files.{Files, ShelfState, SinkState, AsksOnly, Changes, Rose}
+use Rattle.shelf_traits.specs.Files.{Files, ShelfState, SinkState, AsksOnly, Changes, OnlyReads, OnlyWrites, Rose}
 use Rattle.shelf_traits.specs.Written.{written, StoppedAt, Untouched, Says}
 use Rattle.job_words.specs.declared.job.Job.{Job}
 use Rattle.job_words.specs.declared.job.WordFault.{WordFault}
@@ -13,7 +13,7 @@ use Rattle.synth_report.specs.declared.fault.Fault.{Fault}
 use Rattle.synth_report.specs.declared.fault.Fault.TheVariants.{Words, Read, Write, NoMemory}
 use Rattle.synth_report.specs.declared.summary.Summary.{Summary}
 use Rattle.synth_report.specs.Texts.{fault_line, status_of, summary_status}
-use Rattle.command.specs.Commands.{Command, HasTurn, names_of}
+use Rattle.command.specs.Commands.{Command, HasTurn, names_in, names_of}
 use Rattle.command.specs.Writing.{FileText, Reported, ReportedInPart, IsSilent, files_in, texts_in, pieces}
 
 -- Before anything is written.
@@ -110,11 +110,20 @@ Ends c was now out out' (Err (Write part)) =
     IsUnreported c part was now out out' ⊎ IsStopped c part was now out out'
 Ends c was now out out' (Err fault) = Untouched was now out out' × NotMade c was now fault
 
--- what a command leaves, whatever its answer: it has asked for no file but its own
+-- up to a state between only files that it reads are asked for, and no file is changed; from there
+-- on only files that it writes are asked for, and no count of read faults rises
+pub record ReadsThenWrites (c : Command) (was now : ShelfState) : Type 0 where
+  pub between : ShelfState
+  pub reads : OnlyReads (names_in c.reads) was between
+  pub writes : OnlyWrites (names_in c.writes) between now
+
+-- what a command leaves, whatever its answer: it has asked for no file but its own, first for those
+-- that it reads
 pub record Leaves (c : Command) (was now : ShelfState) (out out' : SinkState)
     (answer : Result Summary Fault) : Type 0 where
   pub ends : Ends c was now out out' answer
   pub asked : AsksOnly (names_of c) was now
+  pub halves : ReadsThenWrites c was now
 
 -- The run of words.
 

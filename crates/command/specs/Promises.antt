@@ -13,7 +13,7 @@ use Rattle.synth_report.specs.declared.fault.Fault.TheVariants.{Words, Read, Wri
 use Rattle.synth_report.specs.declared.summary.Summary.{Summary}
 use Rattle.synth_report.specs.Texts.{fault_line, memory_line, status_of, summary_status}
 use Rattle.command.specs.Commands.{Command, HasTurn, names_of}
-use Rattle.command.specs.Outcomes.{AreRefused, Commands, IsFinished, IsStopped, IsUnread, IsUnreported}
+use Rattle.command.specs.Outcomes.{AreRefused, Commands, IsFinished, IsStopped, IsUnread, IsUnreported, ReadsThenWrites}
 
 -- the words ask for this job
 abbrev pub Asks : List (List ℕ) → Job → Type 0
@@ -46,6 +46,10 @@ pub record DoneStatus (commands : Commands) (words : List (List ℕ)) (was now :
   pub where_made : (job : Job) (files : Files) (texts : List (List ℕ)) (summary : Summary)
       → Asks words job → TellsFiles was now files → (commands job).Makes files texts summary
       → (status ≡ summary_status summary) ⊎ (status ≡ 5) ⊎ (status ≡ 6) ⊎ (status ≡ 7)
+
+-- with status 0 or 1 nothing was given to err, and none of its writes failed
+abbrev pub SaysNothing : SinkState → SinkState → ℕ → Type 0
+SaysNothing err err' status = (status ≡ 0) ⊎ (status ≡ 1) → err' ≡ err
 
 -- STATUS 2
 
@@ -166,3 +170,9 @@ pub record NamedFiles (commands : Commands) (words : List (List ℕ)) (was now :
     : Type 0 where
   pub of_job : (job : Job) → Asks words job → AsksOnly (names_of (commands job)) was now
   pub of_none : (fault : WordFault) → job_of words ≡ Err fault → AsksOnly [] was now
+
+-- with every status, where the words ask for a job: no file is asked for, as where there is no memory
+-- for the words, or first those that its command reads, and then those that it writes
+abbrev pub ReadsFirst : Commands → List (List ℕ) → ShelfState → ShelfState → Type 0
+ReadsFirst commands words was now =
+    (job : Job) → Asks words job → AsksOnly [] was now ⊎ ReadsThenWrites (commands job) was now

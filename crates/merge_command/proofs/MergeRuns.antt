@@ -1,18 +1,22 @@
 -- `merge` has one answer to files, and its headline.
-use Rattle.std.proofs.Common.{◌≡◌, ◌≢◌, ℕ, ◌+◌, List, [], ◌∷◌, length, ap, sym, ◌∙◌, arith, length-append}
+use Rattle.std.proofs.Common.{◌≡◌, ◌≢◌, ℕ, ◌+◌, List, [], ◌∷◌, length, ap, sym, ◌∙◌, subst, arith, length-append}
 use Rattle.std.proofs.lemmas.List.{get_or-append-add}
-use Rattle.std.specs.Prelude.{get_or}
+use Rattle.std.specs.Prelude.{get_or, Ok}
 use Rattle.std.specs.FinMap.{get, insert}
 use Rattle.cells.specs.Cells.{sizes_of}
+use Rattle.cells.specs.Places.{cell_count}
 use Rattle.shelf_traits.specs.Files.{Files, content_of}
 use Rattle.shelf_traits.specs.Written.{written}
 use Rattle.shelf_traits.proofs.FileLaws.{content_beside, content_inserted, get_beside}
 use Rattle.netpbm_p6.specs.declared.picture.Picture.{Picture}
 use Rattle.netpbm_p6.specs.Pictures.{IsRead, p6_form}
+use Rattle.netpbm_p6.proofs.ReadAgain.{written_is_read}
 use Rattle.map_canvas.specs.Canvases.{CanvasState}
 use Rattle.map_canvas.proofs.Pictures.{full_picture}
-use Rattle.source_map.specs.MapFiles.{cell_map_form}
+use Rattle.source_map.specs.MapFiles.{cell_map_form, map_read}
 use Rattle.source_map.specs.declared.head.Version.TheVariants.{Two}
+use Rattle.source_map.specs.declared.map_file.MapFile.TheVariants.{Cells as CellMap}
+use Rattle.source_map.proofs.MapsAgain.{read_again}
 use Rattle.photo_merge.specs.MergeLaws.{IsMerged}
 use Rattle.photo_merge.proofs.Leading.{merges_are_merged}
 use Rattle.job_words.specs.declared.merge.MergeJob.{MergeJob}
@@ -24,10 +28,12 @@ use Rattle.command.specs.Writing.{pieces, texts_in}
 use Rattle.command.proofs.Staging.{one_answer}
 use Rattle.sample_files.specs.Several.{contents}
 use Rattle.merge_command.specs.declared.pictures.Pictures.{Pictures}
-use Rattle.merge_command.specs.MergeCommand.{ArePicturesIn, IsMergeOver, IsMergeSummary, IsSet, MayRefuseMerge, merge_command, merge_files, merge_stages, merge_summary, merged_of}
+use Rattle.merge_command.specs.MergeCommand.{ArePicturesIn, IsMade, IsMergeOver, IsMergeSummary, IsSet, MayRefuseMerge, merge_command, merge_files, merge_stages, merge_summary, merged_of}
 use Rattle.merge_command.specs.MergeHeadlines.{IsMergeInput, IsMergeOutput, IsMergedRun, IsToldOfMerge}
 use Rattle.merge_command.proofs.Planning.{are_one}
-use Rattle.merge_command.proofs.PictureLaws.{pictures_are_sound}
+use Rattle.merge_command.specs.Pictures.{AreSoundPictures}
+use Rattle.merge_command.proofs.PictureLaws.{one_value, pictures_are_sound, same_picture}
+use Rattle.merge_command.proofs.Ready.{map_ready, picture_ready}
 
 pub merge_has_one_answer : (job : MergeJob) → HasOneAnswer (merge_command job)
 merge_has_one_answer job = one_answer (merge_stages job) (merge_command job).writes (MayRefuseMerge (length job.more + 1)) IsMergeSummary (are_one job)
@@ -72,14 +78,36 @@ module _ (job : MergeJob) (lawful : IsMergeJob job) (before after : Files) (pict
   is : IsMerged pictures.volume marks.volume canvas.map
   is = merges_are_merged pictures.volume marks.volume canvas.map over.merge
 
+  sound : AreSoundPictures pictures
+  sound = pictures_are_sound (content_of before job.sample) (contents before job.more) pictures read
+
+  made : IsMade (merged_of pictures canvas)
+  made = record { volume = over.volume; sound = sound; within = set.within; size = is.size; full = over.full; canvas = over.is_canvas; stands = over.stands }
+
+  out_again : IsRead out_text (record { maxval = pictures.maxval; volume = canvas.picture })
+  out_again =
+      let size : cell_count canvas.picture.size ≡ cell_count pictures.volume.size = ap cell_count (over.is_canvas.size ∙ is.size) in
+      written_is_read pictures.maxval canvas.picture (picture_ready (merged_of pictures canvas) made) (omega (arith, size, set.within))
+
+  map_again : map_read map_text ≡ Ok (CellMap canvas.map (sizes_of pictures.volume) Two)
+  map_again = read_again (CellMap canvas.map (sizes_of pictures.volume) Two) (over.is_canvas.map, map_ready (merged_of pictures canvas) made)
+
+  out_is : content_of after job.out ≡ out_text
+  out_is = out_holds job lawful before after out_text map_text whole
+
+  map_is : content_of after job.map ≡ map_text
+  map_is = map_holds job lawful before after out_text map_text whole
+
   abbrev input : IsMergeInput job before
   input = record {
     pictures = pictures;
     read = read;
+    only = λ other stand. one_value (content_of before job.sample) (contents before job.more) other pictures stand read;
     one_volume = over.volume;
-    one_size = (pictures_are_sound (content_of before job.sample) (contents before job.more) pictures read).one_size;
+    one_size = sound.one_size;
     marks = marks;
     marks_read = marks_read;
+    only_marks = λ other stands. same_picture (content_of before job.marks) other marks stands marks_read;
     set = set;
   }
 
@@ -93,14 +121,16 @@ module _ (job : MergeJob) (lawful : IsMergeJob job) (before after : Files) (pict
     merge = over.merge;
     own = is.own;
     each = is.each;
-    map_file = map_holds job lawful before after out_text map_text whole;
+    map_file = map_is;
     picture = canvas.picture;
     volume = over.is_canvas.picture;
     one = over.is_canvas.part;
     size = over.is_canvas.size ∙ is.size;
     of_map = full_picture canvas pictures.volume over.is_canvas over.stands over.full;
     cells = over.stands.bytes;
-    out_file = out_holds job lawful before after out_text map_text whole;
+    out_file = out_is;
+    out_again = subst (λ bytes. IsRead bytes (record { maxval = pictures.maxval; volume = canvas.picture })) (sym out_is) out_again;
+    map_again = ap map_read map_is ∙ map_again;
   }
 
   told : (summary : Summary) → summary ≡ merge_summary (merged_of pictures canvas) → IsToldOfMerge job summary before after

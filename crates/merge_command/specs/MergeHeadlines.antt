@@ -8,8 +8,9 @@ use Rattle.shelf_traits.specs.Files.{Files, ShelfState, SinkState, Changes, cont
 use Rattle.netpbm_p6.specs.declared.picture.Picture.{Picture}
 use Rattle.netpbm_p6.specs.Pictures.{IsRead, p6_form}
 use Rattle.map_canvas.specs.Maps.{SourceMap, IsFull, IsMap, IsOver, map_at, picture_of}
-use Rattle.source_map.specs.MapFiles.{cell_map_form}
+use Rattle.source_map.specs.MapFiles.{cell_map_form, map_read}
 use Rattle.source_map.specs.declared.head.Version.TheVariants.{Two}
+use Rattle.source_map.specs.declared.map_file.MapFile.TheVariants.{Cells as CellMap}
 use Rattle.least_choice.specs.Totals.{map_total}
 use Rattle.photo_merge.specs.Merges.{AreOneSize, IsMerge}
 use Rattle.photo_merge.specs.MergeLaws.{EachComesFrom, MarkedAreOwn, picture_count}
@@ -24,14 +25,17 @@ use Rattle.merge_command.specs.declared.pictures.Pictures.{Pictures}
 use Rattle.merge_command.specs.MergeCommand.{ArePicturesIn, IsSet}
 
 -- the files of the pictures stand for pictures of one size and one maxval, the parts of one volume,
--- and that of the marks for marks of their size, each of which is 0 or the number of a picture
+-- and for no others; that of the marks stands for marks of their size, each of which is 0 or the
+-- number of a picture, and for no others
 pub record IsMergeInput (job : MergeJob) (before : Files) : Type 0 where
   pub pictures : Pictures
   pub read : ArePicturesIn before job pictures
+  pub only : (other : Pictures) → ArePicturesIn before job other → other ≡ pictures
   pub one_volume : IsVolume pictures.volume
   pub one_size : AreOneSize pictures.volume
   pub marks : Picture
   pub marks_read : IsRead (content_of before job.marks) marks
+  pub only_marks : (other : Picture) → IsRead (content_of before job.marks) other → other ≡ marks
   pub set : IsSet pictures marks
 
 -- the map file has the form, in version 2, of the map of the merge of these pictures by these
@@ -40,7 +44,8 @@ pub record IsMergeInput (job : MergeJob) (before : Files) : Type 0 where
 -- with an earlier one. It has the pictures' size, is full and lies over the pictures; each marked
 -- cell comes from its own place of its own picture, and each cell from its own place of some
 -- picture. The out file has the form of a picture with the pictures' maxval: a volume of their
--- size, the picture of the map, each cell of which is the pictures' cell that the map names
+-- size, the picture of the map, each cell of which is the pictures' cell that the map names. Out file
+-- and map file are read again as this picture and this map
 pub record IsMergeOutput (job : MergeJob) (input : Pictures) (marks : Cells) (after : Files)
     : Type 0 where
   pub map : SourceMap
@@ -60,6 +65,10 @@ pub record IsMergeOutput (job : MergeJob) (input : Pictures) (marks : Cells) (af
   pub cells : (p from : At) → map_at map p ≡ Some from
       → cell_at picture p ≡ cell_at input.volume from
   pub out_file : content_of after job.out ≡ p6_form input.maxval picture
+  pub out_again : IsRead (content_of after job.out)
+      (record { maxval = input.maxval; volume = picture })
+  pub map_again : map_read (content_of after job.map)
+      ≡ Ok (CellMap map (sizes_of input.volume) Two)
 
 -- both; and all files but the two that are written are as before
 pub record IsMergedRun (job : MergeJob) (before after : Files) : Type 0 where

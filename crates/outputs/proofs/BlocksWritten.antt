@@ -6,6 +6,7 @@ use Rattle.cells.specs.Places.{IsSmall}
 use Rattle.shelf_traits.specs.Files.{Files, content_of}
 use Rattle.netpbm_p6.specs.declared.picture.Picture.{Picture}
 use Rattle.netpbm_p6.specs.Pictures.{IsRead, p6_form}
+use Rattle.netpbm_p6.proofs.OneReading.{one_picture}
 use Rattle.map_canvas.proofs.Pictures.{full_picture}
 use Rattle.source_map.specs.MapFiles.{cell_map_form}
 use Rattle.source_map.specs.declared.head.Version.TheVariants.{One}
@@ -33,6 +34,7 @@ module _ (rating : Cells → Rating) (asked : QuiltRun) (names : Names) (differ 
   output = record {
     sample = sample;
     read = read;
+    only = λ other stands. one_picture (content_of before names.sample) other sample stands.stands read.stands;
     sample_volume = read_is_volume (content_of before names.sample) sample read;
     map = quilted.canvas.map;
     map_size = quilt.size;

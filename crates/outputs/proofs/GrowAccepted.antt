@@ -1,11 +1,9 @@
 -- The files that `grow` leaves stand: each is read again as what was written.
 use Rattle.std.proofs.Common.{◌≡◌, ◌≤◌, Bool, true, false, List, length, refl, ap, sym, ◌∙◌, subst, arith}
 use Rattle.std.specs.Prelude.{All, Ok}
-use Rattle.cells.specs.Cells.{Cells, sizes_of}
+use Rattle.cells.specs.Cells.{sizes_of}
 use Rattle.cells.specs.Places.{cell_count}
 use Rattle.shelf_traits.specs.Files.{Files, content_of}
-use Rattle.netpbm_p6.proofs.ReadAgain.{written_is_read}
-use Rattle.y4m_clip.proofs.ClipAgain as clip
 use Rattle.source_map.specs.declared.map_file.MapFile.TheVariants.{Cells as CellMap}
 use Rattle.source_map.specs.MapFiles.{IsWritable}
 use Rattle.map_canvas.specs.Maps.{IsMap, SourceMap}
@@ -21,21 +19,15 @@ use Rattle.cert_file.specs.RecordFiles.{IsRecordFileOf, cuts_form}
 use Rattle.cert_file.proofs.CutsAgain.{cuts_again}
 use Rattle.job_words.specs.declared.grow.GrowJob.{GrowJob}
 use Rattle.job_words.specs.GrowWords.{IsGrowJob}
-use Rattle.sample_files.specs.declared.form.Form.{Form}
-use Rattle.sample_files.specs.declared.form.Form.TheVariants.{Picture, Clip}
-use Rattle.sample_files.specs.Samples.{CanStandIn, StandsWithin, form_text}
+use Rattle.sample_files.specs.Samples.{StandsWithin, form_text}
 use Rattle.standing_files.specs.Standing.{FilesStand}
 use Rattle.standing_files.proofs.Runs.{run_stands}
 use Rattle.check_command.specs.Checks.{AreRunFiles, ReadFiles, Stand, StandForWorked, of_turned, run_map_read}
 use Rattle.outputs.specs.declared.growth.Growth.{Growth}
 use Rattle.outputs.specs.Growths.{IsMade, head_over, version_over}
 use Rattle.outputs.proofs.OneTurns.{one_turns}
+use Rattle.outputs.proofs.PicturesAgain.{picture_again}
 use Rattle.outputs.proofs.GrowReady.{cells_ready, map_ready, picture_ready, record_ready, several}
-
--- a picture that is written is read again
-picture_again : (form : Form) (picture : Cells) → CanStandIn form picture → cell_count picture.size ≤ 8388608 → StandsWithin 33554432 (form_text form picture) form picture
-picture_again (Picture maxval) picture can cells = written_is_read maxval picture can cells
-picture_again (Clip form) picture can cells = clip.written_is_read 33554432 form picture can (omega (arith, cells))
 
 -- the text of a map that can be written is read again, as a map over the worked samples
 map_read_again : (turns : Bool) (m : SourceMap) (sizes all : List Size) → IsMap m → 1 ≤ length sizes → all ≡ worked_sizes turns sizes → IsWritable m all (version_of all) → IsReadyMap turns m sizes

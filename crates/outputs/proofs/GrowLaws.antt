@@ -30,6 +30,7 @@ use Rattle.sample_files.specs.Outputs.{FitsOutput, IsWithinBounds}
 use Rattle.sample_files.specs.Samples.{form_text}
 use Rattle.sample_files.specs.Several.{MayRefuseSamples, StandForSamples, contents, of_samples, read_samples}
 use Rattle.sample_files.proofs.Commands.{parts_made}
+use Rattle.sample_files.proofs.OneAnswer.{one_value}
 use Rattle.sample_files.proofs.Sound.{as_many_parts, stand_sound}
 use Rattle.limits.specs.declared.bounds.TheConstants.{MOST_PARTS}
 use Rattle.turned.specs.declared.turn.TheConstants.{TURNS}
@@ -66,6 +67,7 @@ module _ (job : GrowJob) (lawful : IsGrowJob job) (before after : Files) (sample
   output = record {
     samples = samples;
     read = read;
+    only = λ other stand. one_value (of_samples job.turns) (content_of before job.names.sample) (contents before job.names.more) other samples stand read;
     one_volume = is.volume;
     all = is.all;
     map = grown.canvas.map;

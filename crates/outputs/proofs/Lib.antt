@@ -1,4 +1,5 @@
 pub mod GrowReady
+pub mod PicturesAgain
 pub mod Growing
 pub mod NamedCells
 pub mod OneTurns

@@ -1,6 +1,6 @@
 -- The out file, the map file and the report are a function of the words and the sample file.
 use Rattle.std.proofs.Common.{◌≡◌, ℕ, List, length, ap, sym, ◌∙◌, subst}
-use Rattle.cells.specs.Cells.{IsVolume, sizes_of}
+use Rattle.cells.specs.Cells.{sizes_of}
 use Rattle.shelf_traits.specs.Files.{Files, content_of}
 use Rattle.map_canvas.specs.Maps.{SourceMap, picture_of}
 use Rattle.source_map.specs.MapFiles.{cell_map_form}
@@ -15,16 +15,15 @@ use Rattle.synth_report.specs.declared.summary.Summary.TheVariants.{Tile}
 use Rattle.command.specs.Outcomes.{WritesAll}
 use Rattle.sample_files.specs.declared.sample.Sample.{Sample}
 use Rattle.sample_files.specs.Samples.{IsSampleOf, form_text}
-use Rattle.sample_files.proofs.Commands.{same_sample}
 use Rattle.outputs.specs.Tilings.{plan_of, tile_command, torus_seams}
 use Rattle.outputs.specs.TileHeadlines.{HaveSameTiling, IsOneTiling, IsTiledOutput, told_of_tiling}
 use Rattle.outputs.proofs.TileLaws.{tile_told}
 use Rattle.outputs.proofs.Tiling.{run_plan}
 
-module _ (job : TileJob) (is : IsRunPlan (plan_of job)) (before after earlier later : Files) (same : content_of earlier job.sample ≡ content_of before job.sample) (run : IsTiledOutput job before after) (volume : IsVolume run.sample.volume)
+module _ (job : TileJob) (is : IsRunPlan (plan_of job)) (before after earlier later : Files) (same : content_of earlier job.sample ≡ content_of before job.sample) (run : IsTiledOutput job before after)
     (other : IsTiledOutput job earlier later) where
   one_read : other.sample ≡ run.sample
-  one_read = same_sample (content_of before job.sample) other.sample run.sample (subst (λ bytes. IsSampleOf bytes other.sample) same other.read) run.read
+  one_read = run.only other.sample (subst (λ bytes. IsSampleOf bytes other.sample) same other.read)
 
   abbrev here : Tiling
   here = record { map = run.map; draws = run.draws }
@@ -33,7 +32,7 @@ module _ (job : TileJob) (is : IsRunPlan (plan_of job)) (before after earlier la
   there = record { map = other.map; draws = other.draws }
 
   runs : (other.steps ≡ run.steps) × (there ≡ here)
-  runs = one_tiling (plan_of job) run.sample.volume volume is other.steps run.steps there here
+  runs = one_tiling (plan_of job) run.sample.volume run.sample_volume is other.steps run.steps there here
       (subst (λ (s : Sample). IsTiled (plan_of job) s.volume other.steps there) one_read other.run) other.full run.run run.full
 
   same_map : other.map ≡ run.map
@@ -58,9 +57,7 @@ pub one_tile : (job : TileJob) → IsTileJob job → (summary : Summary) (before
 one_tile job lawful summary before after (texts, (sample, read, (frames, (cells, (tiled, its, texts_are, summary_is)))), wrote) =
     let told = tile_told job lawful summary before after (texts, (sample, read, (frames, (cells, (tiled, its, texts_are, summary_is)))), wrote) in
     let plan = run_plan job lawful sample.form its.bounds in
-    let one = same_sample (content_of before job.sample) told.made.sample sample told.made.read read in
-    let volume = subst (λ (s : Sample). IsVolume s.volume) (sym one) its.volume in
     record {
-      files = λ earlier later same other. one_output job plan before after earlier later same told.made volume other;
-      told = λ other_summary earlier later same other. other.summary_is ∙ one_told job plan before after earlier later same told.made volume other.made ∙ sym told.summary_is;
+      files = λ earlier later same other. one_output job plan before after earlier later same told.made other;
+      told = λ other_summary earlier later same other. other.summary_is ∙ one_told job plan before after earlier later same told.made other.made ∙ sym told.summary_is;
     }

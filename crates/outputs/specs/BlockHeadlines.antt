@@ -20,13 +20,14 @@ use Rattle.job_words.specs.declared.job.Names.{Names}
 use Rattle.check_command.specs.Checks.{Stand}
 use Rattle.outputs.specs.BlockOutputs.{quilt_head}
 
--- the sample file stands for a picture, a volume. The map file has the form of a map of the asked size, which
+-- the sample file stands for a picture, a volume, and for no other. The map file has the form of a map of the asked size, which
 -- is full and lies over the sample. The out file has the form of a picture with the sample's maxval:
 -- a volume of that size, the picture of the map, each cell of which is the sample's cell that the map
 -- names
 pub record IsQuiltedOutput (names : Names) (asked : Size) (before after : Files) : Type 0 where
   pub sample : Picture
   pub read : IsRead (content_of before names.sample) sample
+  pub only : (other : Picture) → IsRead (content_of before names.sample) other → other ≡ sample
   pub sample_volume : IsVolume sample.volume
   pub map : SourceMap
   pub map_size : map.size ≡ asked

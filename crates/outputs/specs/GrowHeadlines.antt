@@ -27,8 +27,8 @@ use Rattle.check_command.specs.Checks.{AreRunFiles, ReadFiles, Stand}
 use Rattle.outputs.specs.GrownMaps.{map_text, named_place}
 use Rattle.outputs.specs.Growths.{AreSamplesIn, head_over, plan_of}
 
--- the sample files stand for samples, the parts of one volume, and with turns all turns of them are
--- the parts of one volume too. There is a map of the asked size, which is full and lies over the
+-- the sample files stand for samples, the parts of one volume, and for no others; with turns all turns
+-- of them are the parts of one volume too. There is a map of the asked size, which is full and lies over the
 -- samples, or with turns over the volume of all their turns. The map file has the form of that map:
 -- it names the samples' cells, with turns as they are before any turn. The out file has the form of
 -- a picture in the samples' form: a volume of that size, the picture of the map, each cell of which
@@ -36,6 +36,7 @@ use Rattle.outputs.specs.Growths.{AreSamplesIn, head_over, plan_of}
 pub record IsGrownOutput (job : GrowJob) (before after : Files) : Type 0 where
   pub samples : Samples
   pub read : AreSamplesIn before job samples
+  pub only : (other : Samples) → AreSamplesIn before job other → other ≡ samples
   pub one_volume : IsVolume samples.volume
   pub all : IsVolume (worked job.turns samples.volume)
   pub map : SourceMap

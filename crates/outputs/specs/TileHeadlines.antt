@@ -1,6 +1,6 @@
 -- The headline of `tile`: what holds when it ends with status 0. To be trusted: contracts cite
 -- these words. (Own.)
-use Rattle.std.specs.Prelude.{◌≡◌, ◌≢◌, ℕ, List, length, Some, Ok}
+use Rattle.std.specs.Prelude.{◌≡◌, ◌≢◌, ℕ, false, List, length, Some, Ok}
 use Rattle.std.specs.FinMap as fin
 use Rattle.cells.specs.declared.place.At.{At}
 use Rattle.cells.specs.Cells.{Cells, IsOnePart, IsVolume, cell_at, sizes_of}
@@ -8,6 +8,7 @@ use Rattle.shelf_traits.specs.Files.{Files, ShelfState, SinkState, Changes, cont
 use Rattle.map_canvas.specs.Maps.{SourceMap, IsFull, IsMap, IsOver, empty_map, map_at, picture_of}
 use Rattle.source_map.specs.MapFiles.{cell_map_form}
 use Rattle.source_map.specs.declared.head.Version.TheVariants.{One}
+use Rattle.source_map.specs.declared.map_file.MapFile.TheVariants.{Cells as CellMap}
 use Rattle.patch_picks.specs.Draws.{DrawState}
 use Rattle.torus.specs.Steps.{TileStep}
 use Rattle.torus.specs.Tilings.{EachTileIsLeast, EachTileKeeps, IsTiled}
@@ -19,17 +20,21 @@ use Rattle.synth_report.specs.declared.summary.Summary.TheVariants.{Tile}
 use Rattle.command.specs.Writing.{Reported}
 use Rattle.sample_files.specs.declared.sample.Sample.{Sample}
 use Rattle.sample_files.specs.Samples.{form_text}
+use Rattle.check_command.specs.Checks.{IsOut, IsReadMap}
 use Rattle.outputs.specs.Tilings.{IsSampleIn, plan_of, torus_seams}
 
--- the sample file stands for a sample. The map file has the form of a map of the asked size,
+-- the sample file stands for a sample, a volume, and for no other. The map file has the form of a map of the asked size,
 -- which is full and lies over the sample. It is the last map of the run of these words: each
 -- placement is that of its draw, its choice is least on the torus, edges included, and each kept
 -- cell, and each outside the box, has the source that it had. The out file has the form of a
 -- picture in the sample's form: a volume of the asked size, the picture of the map, each cell of
--- which is the sample's cell that the map names. All files but these two are as before
+-- which is the sample's cell that the map names. Out file and map file are read again as this
+-- picture and this map. All files but these two are as before
 pub record IsTiledOutput (job : TileJob) (before after : Files) : Type 0 where
   pub sample : Sample
   pub read : IsSampleIn before job sample
+  pub only : (other : Sample) → IsSampleIn before job other → other ≡ sample
+  pub sample_volume : IsVolume sample.volume
   pub map : SourceMap
   pub asked : map.size ≡ job.size
   pub is_map : IsMap map
@@ -49,6 +54,9 @@ pub record IsTiledOutput (job : TileJob) (before after : Files) : Type 0 where
   pub cells : (p from : At) → map_at map p ≡ Some from
       → cell_at picture p ≡ cell_at sample.volume from
   pub out_file : content_of after job.out ≡ form_text sample.form picture
+  pub out_again : IsOut (content_of after job.out) (record { form = sample.form; volume = picture })
+  pub map_again : IsReadMap false (content_of after job.map)
+      (CellMap map (sizes_of sample.volume) One)
   pub others : (name : List ℕ) → name ≢ job.out → name ≢ job.map
       → fin.get after name ≡ fin.get before name
 

@@ -5,6 +5,7 @@ use Rattle.shelf_traits.specs.Files.{Files, content_of}
 use Rattle.shelf_traits.specs.Written.{written}
 use Rattle.netpbm_p6.specs.declared.picture.Picture.{Picture}
 use Rattle.netpbm_p6.specs.Pictures.{IsRead}
+use Rattle.netpbm_p6.proofs.OneReading.{one_picture}
 use Rattle.quilted.specs.declared.asked.Quilted.{Quilted}
 use Rattle.quilted.specs.Quilted.{IsQuilt}
 use Rattle.targets.specs.Targets.{matched}
@@ -41,6 +42,7 @@ told job lawful before after sample target read aimed alike within quilted quilt
   run = record {
     target = target;
     read = aimed;
+    only = λ other stands. one_picture (content_of before job.target) other target stands.stands aimed.stands;
     within = within;
     run = quilted_by (transfer_rating job target) (transfer_run_of job target) job.names (file_names job lawful) lawful.one before after sample read (small_target before job target aimed) (read_is_sound (content_of before job.target) target.maxval target.volume aimed).form.frames within quilted quilt wrote;
     alike = alike;

@@ -19,13 +19,14 @@ use Rattle.outputs.specs.BlockHeadlines.{HaveSameQuilt, IsQuiltedBy}
 use Rattle.quilt_command.specs.Transfers.{IsTargetIn, transfer_rating, transfer_run_of}
 
 -- the target file stands for a picture of the sample's maxval, whose cells are within the bound of
--- an output. Out file, map file and record file are those of the run that the words ask for, of the
+-- an output, and for no other. Out file, map file and record file are those of the run that the words ask for, of the
 -- target's size over the sample, each place of which is picked by the overlap errors and by how far
 -- its cells are from the target's; they stand, which is what `check` tries; and all other files are
 -- as before
 pub record IsTransferredRun (job : TransferJob) (before after : Files) : Type 0 where
   pub target : Picture
   pub read : IsTargetIn job before target
+  pub only : (other : Picture) → IsTargetIn job before other → other ≡ target
   pub within : FitsOutput target.volume.size
   pub run : IsQuiltedBy (transfer_rating job target) (transfer_run_of job target) job.names
       before after

@@ -1,6 +1,6 @@
 -- Each command has one answer, no status is another's, and the headlines.
-use Rattle.std.proofs.Common.{◌≡◌, ℕ, inl, inr, List, [], sym, ◌∙◌, subst}
-use Rattle.std.specs.Prelude.{Ok}
+use Rattle.std.proofs.Common.{◌≡◌, ℕ, inl, inr, List, [], ap, sym, ◌∙◌, subst}
+use Rattle.std.specs.Prelude.{Result, Ok}
 use Rattle.shelf_traits.specs.Files.{Files, ShelfState, SinkState, Changes, content_of}
 use Rattle.shelf_traits.proofs.FileLaws.{told_weaker}
 use Rattle.job_words.specs.declared.job.Job.{Job}
@@ -8,9 +8,10 @@ use Rattle.job_words.specs.declared.check.CheckJob.{CheckJob}
 use Rattle.job_words.specs.declared.trial.TrialJob.{TrialJob}
 use Rattle.job_words.specs.declared.job.Job.TheVariants.{Grow, Quilt, Loop, Check, Trial, Upgrade, Tile, Merge, Transfer}
 use Rattle.job_words.specs.Jobs.{IsJob, job_of}
+use Rattle.synth_report.specs.declared.fault.Fault.{Fault}
 use Rattle.synth_report.specs.declared.summary.Summary.{Summary}
 use Rattle.command.specs.Commands.{HasOneAnswer}
-use Rattle.command.specs.Outcomes.{Runs, WritesAll}
+use Rattle.command.specs.Outcomes.{Answers, Commands, Runs, SaysAnswer, WritesAll, answer_status}
 use Rattle.command.specs.Promises.{Asks, DoneStatus, HasDone, IsRunStatus}
 use Rattle.command.specs.Writing.{Reported}
 use Rattle.command.proofs.Promising.{done_promise, status_promise}
@@ -35,12 +36,12 @@ use Rattle.upgrade_command.proofs.Headline.{finished}
 use Rattle.upgrade_command.proofs.Reading.{upgrade_has_one_answer}
 use Rattle.weave_engine.specs.Engine.{command_of}
 use Rattle.outputs.specs.GrowHeadlines.{GrowHeadline, GrowReport, HaveSameOutput, HaveSameSamples, IsGrownRun, IsOneReport, OneOutput}
-use Rattle.check_command.specs.CheckHeadlines.{CheckHeadline, HaveLeastRecords}
+use Rattle.check_command.specs.CheckHeadlines.{CheckHeadline, HasNamedCells, HaveLeastRecords}
 use Rattle.grow_command.specs.TrialHeadlines.{TrialHeadline}
 use Rattle.standing_files.specs.declared.verdict.Verdict.TheVariants as verdict
 use Rattle.check_command.specs.Checks.{Stand, check_command, summary_of}
 use Rattle.check_command.proofs.Staged.{check_has_one_answer}
-use Rattle.check_command.proofs.Checked.{broke, least_records, made_breaking, made_standing, stood}
+use Rattle.check_command.proofs.Checked.{broke, least_records, made_breaking, made_standing, named_cells, stood}
 use Rattle.outputs.proofs.Growing.{small_output}
 use Rattle.outputs.proofs.GrowLaws.{grow_has_one_answer, grow_told, grown_run, output_fits}
 use Rattle.outputs.proofs.OneGrowths.{one_output, one_report}
@@ -57,6 +58,16 @@ one_answer (Upgrade job) lawful = upgrade_has_one_answer job
 one_answer (Tile job) lawful = tile_has_one_answer job
 one_answer (Merge job) lawful = merge_has_one_answer job
 one_answer (Transfer job) lawful = transfer_has_one_answer job
+
+-- what is told of an answer is a run of the words, where it is that answer and the shelf is as it was left
+pub ran_by : (commands : Commands) (words : List (List ℕ)) (was left now : ShelfState) (out out' err err' : SinkState) (status : ℕ) (answer told : Result Summary Fault)
+    → Answers commands words was left out out' answer → now ≡ left → told ≡ answer → SaysAnswer told err err' → status ≡ answer_status told → Runs commands words was now out out' err err' status
+ran_by commands words was left now out out' err err' status answer told answered as_left same said number = record {
+  answer = answer;
+  left = subst (λ shelf. Answers commands words was shelf out out' answer) (sym as_left) answered;
+  said = subst (λ a. SaysAnswer a err err') same said;
+  number = number ∙ ap answer_status same;
+}
 
 one_ok : (words : List (List ℕ)) (a b : Job) → job_of words ≡ Ok a → job_of words ≡ Ok b → a ≡ b
 one_ok words a b p q = let both : Ok a ≡ Ok b = sym p ∙ q in cc
@@ -132,7 +143,7 @@ module _ (words : List (List ℕ)) (was now : ShelfState) (out out' err err' : S
   pub loop_once : OneLoop words was now out out' status
   loop_once job asks zero =
       let its = done_of (Loop job) asks zero in
-      (its.summary, its.told, then_of (Loop job) its (λ before after. IsOneLoop job its.summary before) (one_loop job its.lawful its.summary))
+      (its.summary, its.told, then_of (Loop job) its (IsOneLoop job its.summary) (one_loop job its.lawful its.summary))
 
   -- the headline of `tile`, and its one output
   pub tile_headline : TileHeadline words was now out out' status
@@ -184,6 +195,9 @@ module _ (words : List (List ℕ)) (was now : ShelfState) (out out' err err' : S
   check_headline = record {
     stand = λ job asks zero. let has = done.only (inl zero) in let its = check_done job asks has in
         told_weaker (WritesAll (check_command job) has.summary) (λ before after. (after ≡ before) × Stand job.turns job.names before) was.files now.files (stood job has.summary (sym has.verdict ∙ zero)) its;
+    copied = λ job asks zero. let has = done.only (inl zero) in let its = check_done job asks has in
+        told_weaker (WritesAll (check_command job) has.summary) (λ before after. HasNamedCells job.turns job.names before) was.files now.files
+        (λ before after wrote. named_cells job.turns job.names before (stood job has.summary (sym has.verdict ∙ zero) before after wrote).1) its;
     least = λ job asks zero. let has = done.only (inl zero) in let its = check_done job asks has in
         told_weaker (WritesAll (check_command job) has.summary) (λ before after. HaveLeastRecords job.turns job.names before) was.files now.files
         (λ before after wrote. least_records job.turns job.names before (stood job has.summary (sym has.verdict ∙ zero) before after wrote).1) its;

@@ -1,7 +1,7 @@
 // A whole run, from the words to the status.
 ghost use Rattle.job_words.specs.Jobs.{IsJob};
 ghost use Rattle.command.specs.Outcomes.{Answers, Leaves, Runs};
-ghost use Rattle.command.specs.Promises.{DoneStatus, IsComplete, IsRunStatus, KeepsFiles, KeepsOthers, MemoryStatus, NamedFiles, ReadStatus, RefusedStatus, WordsStatus, WriteStatus};
+ghost use Rattle.command.specs.Promises.{DoneStatus, IsComplete, IsRunStatus, KeepsFiles, KeepsOthers, MemoryStatus, NamedFiles, ReadStatus, ReadsFirst, RefusedStatus, SaysNothing, WordsStatus, WriteStatus};
 ghost use Rattle.check_command.specs.CheckHeadlines.{CheckHeadline};
 ghost use Rattle.outputs.specs.GrowHeadlines.{GrowHeadline, GrowReport, OneOutput};
 ghost use Rattle.loop_command.specs.LoopHeadlines.{LoopHeadline, OneLoop};
@@ -91,6 +91,7 @@ pub fn run<S: Shelf, O: Sink, E: Sink>(
     // When each status comes, and what was written and said then.
     ensures status_done { DoneStatus command_of words.now (S.state shelf.old) (S.state shelf.new)
         (O.state out.old) (O.state out.new) (E.state err.old) (E.state err.new) result }
+    ensures silent { SaysNothing (E.state err.old) (E.state err.new) result }
     ensures status_words { WordsStatus words.now (E.state err.old) (E.state err.new) result }
     ensures status_form { RefusedStatus command_of 3 words.now
         (S.state shelf.old) (S.state shelf.new) (E.state err.old) (E.state err.new) result }
@@ -114,6 +115,11 @@ pub fn run<S: Shelf, O: Sink, E: Sink>(
 
     // Whatever it answers, only files that the words name were asked for, read or written.
     ensures named_files { NamedFiles command_of words.now (S.state shelf.old) (S.state shelf.new) }
+
+    // The calls are in two halves. Up to a state between, only files that the command reads are asked for, and no
+    // file is changed; from there on only files that it writes. A shelf tells names of calls and no kinds, so of
+    // their order this says no more than `named_files`.
+    ensures reads_first { ReadsFirst command_of words.now (S.state shelf.old) (S.state shelf.new) }
 
     // With status 0 of `grow` every output cell is the sample cell that the written map names; each placement
     // of the written record keeps its fixed cells and has the least total cost of seams, old ones
@@ -140,14 +146,15 @@ pub fn run<S: Shelf, O: Sink, E: Sink>(
 
     // With status 0 of `loop` each frame is the sample's frame that the written map names; these frames are a
     // closed walk of the asked length, such that none of that length costs less; and the files are such
-    // that `check` accepts them. The report and the tables of the record are a function of the words and
-    // the sample file.
+    // that `check` accepts them. Of all such walks it is the first by the middles of its parts, so all three
+    // files and the report are a function of the words and the sample file.
     ensures looped { LoopHeadline words.now (S.state shelf.old) (S.state shelf.new) result }
     ensures one_loop { OneLoop words.now (S.state shelf.old) (S.state shelf.new)
         (O.state out.old) (O.state out.new) result }
 
     // `check` answers 0 exactly where the files stand, and 1 exactly where they are in their forms and
-    // limits and don't, with the first rule that they break. What it accepts is least, whoever made it.
+    // limits and don't, with the first rule that they break. In what it accepts each cell of the out file is
+    // the samples' cell that the map file names, and the records are least, whoever made them.
     ensures checked { CheckHeadline words.now (S.state shelf.old) (S.state shelf.new)
         (O.state out.old) (O.state out.new) result }
 
@@ -163,8 +170,8 @@ pub fn run<S: Shelf, O: Sink, E: Sink>(
 
     // With status 0 of `tile` every output cell is the sample cell that the written map names; the map is the
     // last one of the run of the words, each choice of which has the least total cost of seams, those across
-    // the edges included; and the report is that of the run. Out file, map and report are a function of the
-    // words and the sample file.
+    // the edges included; out file and map are read again as what was written; and the report is that of the
+    // run. Out file, map and report are a function of the words and the sample file.
     ensures tiled { TileHeadline words.now (S.state shelf.old) (S.state shelf.new)
         (O.state out.old) (O.state out.new) result }
     ensures one_tile { OneTile words.now (S.state shelf.old) (S.state shelf.new)
@@ -172,8 +179,9 @@ pub fn run<S: Shelf, O: Sink, E: Sink>(
 
     // With status 0 of `merge` every output cell is the same cell of the picture that the written map names; each
     // marked cell is its own picture's; and the map is that of the merge, in which each picture from the second on
-    // is laid by the choice of least total cost of all that keep the marked cells. Out file and map are a function
-    // of the pictures and the marks, and so is the report, which is that of the map.
+    // is laid by the choice of least total cost of all that keep the marked cells. Out file and map are read again
+    // as what was written. They are a function of the pictures and the marks, and so is the report, which is that
+    // of the map.
     ensures merged { MergeHeadline words.now (S.state shelf.old) (S.state shelf.new) result }
     ensures one_merge { OneMerge words.now (S.state shelf.old) (S.state shelf.new) result }
     ensures merge_report { MergeReport words.now (S.state shelf.old) (S.state shelf.new)

@@ -1,14 +1,19 @@
-use Rattle.command.proofs.Promising.{complete_promise, done_promise, keeps_promise, memory_promise, named_promise, others_promise, read_promise, refused_promise, words_promise, write_promise}
+use Rattle.std.proofs.Common.{arith}
+use Rattle.command.proofs.Promising.{complete_promise, done_promise, halves_promise, keeps_promise, memory_promise, named_promise, others_promise, read_promise, refused_promise, silence_promise, words_promise, write_promise}
 use Rattle.command.proofs.Views.{form_number, limit_number, loop_number}
 use Rattle.weave_engine.specs.Engine.{command_of}
-use Rattle.weave_engine.proofs.Ending.{check_headline, grow_headline, grow_once, grow_reported, known_status, loop_headline, loop_once, merge_headline, merge_once, merge_reported, one_answer, quilt_headline, quilt_once, quilt_reported, tile_headline, tile_once, transfer_headline, transfer_once, transfer_reported, trial_headline, upgrade_headline}
+use Rattle.weave_engine.proofs.Ending.{check_headline, grow_headline, grow_once, grow_reported, known_status, loop_headline, loop_once, merge_headline, merge_once, merge_reported, one_answer, quilt_headline, quilt_once, quilt_reported, ran_by, tile_headline, tile_once, transfer_headline, transfer_once, transfer_reported, trial_headline, upgrade_headline}
 use Rattle.weave_engine.proofs.engine.run.Goals as goal
 
 pub returns-clause-ran : goal.returns-clause-ran
-returns-clause-ran g c = record { answer = c.answer-answer.result; left = c.answer-answer.ensures; said = c.finish.ensures.said; number = c.finish.ensures.status }
+returns-clause-ran g c =
+    ran_by command_of _ _ _ _ _ _ _ _ _ c.answer-answer.result _ c.answer-answer.ensures (grind arith) (grind arith) c.finish.ensures.said c.finish.ensures.status
 
 pub returns-clause-status_done : goal.returns-clause-status_done
 returns-clause-status_done g c = done_promise command_of one_answer _ _ _ _ _ _ _ _ (returns-clause-ran g c)
+
+pub returns-clause-silent : goal.returns-clause-silent
+returns-clause-silent g c = silence_promise command_of one_answer _ _ _ _ _ _ _ _ (returns-clause-ran g c)
 
 pub returns-clause-status_words : goal.returns-clause-status_words
 returns-clause-status_words g c = words_promise command_of one_answer _ _ _ _ _ _ _ _ (returns-clause-ran g c)
@@ -42,6 +47,9 @@ returns-clause-other_files g c = others_promise command_of one_answer _ _ _ _ _ 
 
 pub returns-clause-named_files : goal.returns-clause-named_files
 returns-clause-named_files g c = named_promise command_of one_answer _ _ _ _ _ _ _ _ (returns-clause-ran g c)
+
+pub returns-clause-reads_first : goal.returns-clause-reads_first
+returns-clause-reads_first g c = halves_promise command_of one_answer _ _ _ _ _ _ _ _ (returns-clause-ran g c)
 
 pub returns-clause-no_other_status : goal.returns-clause-no_other_status
 returns-clause-no_other_status g c = known_status _ _ _ _ _ _ _ _ (returns-clause-ran g c)

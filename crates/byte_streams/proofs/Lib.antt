@@ -1,0 +1,4 @@
+mod Filled
+mod Ends
+mod SoFar
+mod Kept

@@ -1,0 +1,4 @@
+pub mod Tails
+pub mod Places
+pub mod Readers
+pub mod Writers

@@ -1,14 +1,16 @@
 //! The files of the system as a shelf, and its standard output and error as sinks.
 //!
-//! `real` has the shelf, over `files`, and `streams` the sinks; they tell no content, and are the
-//! trusted edge. `nodes` knows the files by more than their names, and `pieces` reads and writes.
+//! `real` has the shelf, over `files`, and `streams` the sinks. `nodes` knows the files by more than
+//! their names. What is read and written goes through byte_streams, and what is opened through
+//! system_calls.
 #![tactic(auto)]
 
 mod files;
 mod nodes;
-mod pieces;
 mod real;
+mod start;
 mod streams;
 
 pub use real::RealShelf;
-pub use streams::{ErrorOutput, Output};
+pub use start::{Start, Unknown};
+pub use streams::{ErrorOutput, Output, hold_streams};

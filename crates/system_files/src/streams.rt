@@ -1,67 +1,105 @@
-// The standard output and the standard error as sinks. They tell no content, and count their faults.
-use crate::pieces::write_all_of;
+// The standard output and the standard error as sinks, each with a record of its calls.
+ghost use Rattle.std.specs.Prelude.{◌≡◌, []};
+ghost use Rattle.system_files.specs.Replays.{AreAskedFor, sink_of};
+
+use crate::start::Start;
+use byte_streams::write_all_of;
 use shelf_traits::{Failed, Sink};
+use std::fs::File;
+use std::io::{self, Stderr, Stdout};
+use std::marker::{Model, PhantomData};
+use system_calls::{Call, Record, System};
 
-/// The standard output.
+/// The standard output. A clause sees its calls.
 #[derive(Drop)]
-pub struct Output {
-    rt: HostRuntime,
-    faults: u64,
+pub struct Output<S: Start> {
+    stream: Stdout,
+    start: PhantomData<S>,
+    calls: Record,
 }
 
-impl Output {
-    ghost use Rattle.std.specs.Prelude.{◌≡◌};
+impl<S: Start> Model for Output<S> {
+    ghost use Rattle.std.specs.Prelude.{List};
+    ghost use Rattle.system_calls.specs.Calls.{Noted};
 
-    /// The standard output, with no fault counted.
-    pub fn new(rt: HostRuntime) -> Output
-        ensures { result.faults ≡ 0 }
+    ghost Value = { List Noted };
+
+    ghost view = { λ sink. sink.calls.calls };
+}
+
+impl<S: Start> Output<S> {
+    /// The standard output, with no call.
+    pub fn new(stream: Stdout) -> Output<S>
+        ensures { result ≡ [] }
     {
-        Output { rt, faults: 0 }
+        Output {
+            stream,
+            start: PhantomData,
+            calls: Record::new(),
+        }
     }
 }
 
-impl Sink for Output {
-    ghost use Rattle.std.specs.Prelude.{None};
-
-    ghost state = { λ m. record { bytes = None; faults = m.faults } };
+impl<S: Start> Sink for Output<S> {
+    ghost state = { λ sink. sink_of S.left_out sink };
 
     fn add(&mut self, piece: &[u8]) -> Result<(), Failed> {
-        let Ok(()) = write_all_of(&mut self.rt.stdout(), piece) else {
-            self.faults = self.faults.saturating_add(1);
-            return Err(Failed);
-        };
-        Ok(())
+        let answer = write_all_of(&mut self.stream, piece);
+        let done = answer.is_ok();
+        self.calls.note(&Call::Say { piece, done });
+        answer
     }
 }
 
-/// The standard error.
+/// The standard error. A clause sees its calls.
 #[derive(Drop)]
-pub struct ErrorOutput {
-    rt: HostRuntime,
-    faults: u64,
+pub struct ErrorOutput<S: Start> {
+    stream: Stderr,
+    start: PhantomData<S>,
+    calls: Record,
 }
 
-impl ErrorOutput {
-    ghost use Rattle.std.specs.Prelude.{◌≡◌};
+impl<S: Start> Model for ErrorOutput<S> {
+    ghost use Rattle.std.specs.Prelude.{List};
+    ghost use Rattle.system_calls.specs.Calls.{Noted};
 
-    /// The standard error, with no fault counted.
-    pub fn new(rt: HostRuntime) -> ErrorOutput
-        ensures { result.faults ≡ 0 }
+    ghost Value = { List Noted };
+
+    ghost view = { λ sink. sink.calls.calls };
+}
+
+impl<S: Start> ErrorOutput<S> {
+    /// The standard error, with no call.
+    pub fn new(stream: Stderr) -> ErrorOutput<S>
+        ensures { result ≡ [] }
     {
-        ErrorOutput { rt, faults: 0 }
+        ErrorOutput {
+            stream,
+            start: PhantomData,
+            calls: Record::new(),
+        }
     }
 }
 
-impl Sink for ErrorOutput {
-    ghost use Rattle.std.specs.Prelude.{None};
-
-    ghost state = { λ m. record { bytes = None; faults = m.faults } };
+impl<S: Start> Sink for ErrorOutput<S> {
+    ghost state = { λ sink. sink_of S.left_err sink };
 
     fn add(&mut self, piece: &[u8]) -> Result<(), Failed> {
-        let Ok(()) = write_all_of(&mut self.rt.stderr(), piece) else {
-            self.faults = self.faults.saturating_add(1);
-            return Err(Failed);
-        };
-        Ok(())
+        let answer = write_all_of(&mut self.stream, piece);
+        let done = answer.is_ok();
+        self.calls.note(&Call::Say { piece, done });
+        answer
     }
+}
+
+/// Takes the numbers of the standard streams that are closed, until what it gives is dropped. The next file
+/// that is opened would get such a number, and what is said would be written into it. A file that holds a
+/// number is open to be read alone, so that a write of what is said fails.
+pub fn hold_streams(system: &mut System) -> io::Result<[File; 3]>
+    ensures { AreAskedFor system.old [] → AreAskedFor system.new [] }
+{
+    let first = system.hold()?;
+    let second = system.hold()?;
+    let third = system.hold()?;
+    Ok([first, second, third])
 }

@@ -40,7 +40,11 @@ type Least<'a> = (
 const LEAST: &[Least<'static>] = &[
     (FOUR, Taps::None0, 1, 1, Some((9, &[], &[]))),
     (FOUR, Taps::None0, 1, 2, Some((0, &[0, 1], TABLE))),
-    (FOUR, Taps::None0, 1, 3, Some((9, &[], &[]))),
+    // Of five least walks from frame 0 this one alone has 0 at position 2, the middle. 0, 0, 1 has the
+    // smaller frame at position 1.
+    (FOUR, Taps::None0, 1, 3, Some((9, &[0, 1, 0], &[]))),
+    // The other least walk from frame 0 is 0, 1, 2, 1, with the greater frame in the middle.
+    (FOUR, Taps::None0, 1, 4, Some((0, &[0, 1, 0, 1], &[]))),
     // Two frames with a gap of 3.
     (&[0, 3], Taps::None0, 3, 2, None),
     // Three frames of which no step has four taps.

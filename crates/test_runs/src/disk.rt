@@ -4,7 +4,8 @@ use shelf_core::Shelf;
 use std::alloc::AllocError;
 use std::os::unix::fs::symlink;
 use std::{env, fs, process};
-use system_files::RealShelf;
+use system_calls::System;
+use system_files::{RealShelf, Unknown};
 
 /// What is done with a file, and what it has to hold.
 pub enum Step<'a> {
@@ -28,7 +29,7 @@ pub enum Step<'a> {
 /// The name of a file, and a step.
 pub type Row<'a> = (&'a str, Step<'a>);
 
-fn gets(shelf: &mut RealShelf, name: &str, at: u64, count: usize, wanted: &[u8]) -> bool {
+fn gets(shelf: &mut RealShelf<Unknown>, name: &str, at: u64, count: usize, wanted: &[u8]) -> bool {
     let mut bytes = [0u8; 9];
     let Some(into) = bytes.get_mut(..count) else {
         return false;
@@ -38,7 +39,12 @@ fn gets(shelf: &mut RealShelf, name: &str, at: u64, count: usize, wanted: &[u8])
 }
 
 // Takes a step, and says whether it went well.
-fn goes_well(rt: &HostRuntime, shelf: &mut RealShelf, name: &str, step: &Step<'_>) -> bool {
+fn goes_well(
+    rt: &HostRuntime,
+    shelf: &mut RealShelf<Unknown>,
+    name: &str,
+    step: &Step<'_>,
+) -> bool {
     match *step {
         Step::Run(outputs, status, whole) => grows(rt, name, outputs, status, whole),
         Step::Begin => shelf.begin(name).is_ok(),
@@ -54,7 +60,7 @@ fn goes_well(rt: &HostRuntime, shelf: &mut RealShelf, name: &str, step: &Step<'_
     }
 }
 
-fn wrong_step_by(rt: &HostRuntime, shelf: &mut RealShelf, steps: &[Row]) -> Option<usize> {
+fn wrong_step_by(rt: &HostRuntime, shelf: &mut RealShelf<Unknown>, steps: &[Row]) -> Option<usize> {
     for (i, (name, step)) in steps.iter().enumerate() {
         if !goes_well(rt, shelf, name, step) {
             return Some(i);
@@ -65,7 +71,7 @@ fn wrong_step_by(rt: &HostRuntime, shelf: &mut RealShelf, steps: &[Row]) -> Opti
 
 // (The end of a shelf is long to prove: `drop` has it proved by itself.)
 fn wrong_step_here(rt: &HostRuntime, steps: &[Row]) -> Result<Option<usize>, AllocError> {
-    let mut shelf = RealShelf::new(*rt, rt.alloc())?;
+    let mut shelf = RealShelf::<Unknown>::new(System::new(*rt), rt.alloc())?;
     let found = wrong_step_by(rt, &mut shelf, steps);
     drop(shelf);
     Ok(found)

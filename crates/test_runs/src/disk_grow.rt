@@ -1,7 +1,8 @@
 // A run of `grow` over files of the system: two cells of a sample become three.
 use std::alloc::AllocError;
 use std::fs;
-use system_files::{ErrorOutput, Output, RealShelf};
+use system_calls::System;
+use system_files::{ErrorOutput, Output, RealShelf, Unknown};
 use test_stage::ran;
 
 /// Two cells of grey 10 and 20 side by side.
@@ -37,9 +38,9 @@ pub fn has_bytes(rt: &HostRuntime, path: &str, wanted: &[u8]) -> bool {
 
 // The status of a run over files of the system.
 fn status_of(rt: &HostRuntime, line: &str) -> Result<u8, AllocError> {
-    let mut out = Output::new(*rt);
-    let mut err = ErrorOutput::new(*rt);
-    let mut shelf = RealShelf::new(*rt, rt.alloc())?;
+    let mut out = Output::<Unknown>::new(rt.stdout());
+    let mut err = ErrorOutput::<Unknown>::new(rt.stderr());
+    let mut shelf = RealShelf::<Unknown>::new(System::new(*rt), rt.alloc())?;
     let status = ran(rt.alloc(), line, &mut shelf, &mut out, &mut err);
     drop(shelf);
     status

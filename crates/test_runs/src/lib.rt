@@ -32,6 +32,8 @@ mod growing;
 #[cfg(test)]
 mod hostile;
 #[cfg(test)]
+mod keys;
+#[cfg(test)]
 mod lifted;
 #[cfg(test)]
 mod loop_rules;
@@ -49,6 +51,8 @@ mod said;
 mod samples;
 #[cfg(test)]
 mod several;
+#[cfg(test)]
+mod sizes;
 #[cfg(test)]
 mod tables;
 #[cfg(test)]

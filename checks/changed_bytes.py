@@ -32,8 +32,8 @@ from beside import WEAVE
 from malformed import malformed
 from random_loops import write_clip
 from random_runs import write_sample
-from run_files import Block, Cut, Fields, Named
-from verify import verify, verify_unrecorded
+from weave_tools.map_files import Block, Cut, Fields, Named
+from weave_tools.verifying import verify, verify_unrecorded
 
 MOST_MEMORY = 1 << 29
 HEADER_BYTES = b"0123456789  #\n\r\tWHCIFAXPYpt?\x00\xff"

@@ -13,7 +13,8 @@ import tempfile
 
 from beside import WEAVE
 from random_runs import write_sample
-from verify import BlockCheck, Broken, Run
+from weave_tools.rules import BlockCheck, Broken
+from weave_tools.verifying import Run
 
 FEW_WAYS = 3 ** 9
 

@@ -12,7 +12,7 @@ import sys
 import tempfile
 
 from beside import WEAVE
-from verify import verify
+from weave_tools.verifying import verify
 
 
 def write_sample(name, chance, most=7):

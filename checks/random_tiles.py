@@ -17,7 +17,7 @@ import sys
 import tempfile
 
 from beside import WEAVE
-from run_files import read_map
+from weave_tools.map_files import read_map
 
 MOST_FREE = 11
 WRAPS = {"x": (True, False, False), "y": (False, True, False), "xy": (True, True, False), "f": (False, False, True), "xyf": (True, True, True)}

@@ -19,8 +19,9 @@ from beside import WEAVE
 from random_quilts import EachBoundary, verify_blocks
 from random_runs import write_sample
 from random_tiles import draw
-from run_files import read_pixels, read_record
-from verify import redraw
+from weave_tools.map_files import read_record
+from weave_tools.pixel_files import read_pixels
+from weave_tools.run_drawing import redraw
 
 
 def squares(a, b):

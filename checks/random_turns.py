@@ -16,7 +16,8 @@ import tempfile
 from beside import WEAVE
 from random_loops import KINDS, write_clip
 from random_runs import write_sample
-from verify import redraw, verify
+from weave_tools.run_drawing import redraw
+from weave_tools.verifying import verify
 
 
 def bytes_of(name):

@@ -26,8 +26,9 @@ from beside import EXAMPLES, TOOLS, WEAVE
 from changed_bytes import KINDS, TURNED, change, make_run as random_run, words_of
 from chromium import Browser
 from malformed import malformed
-from run_files import is_map_of_turns
-from verify import Output, Run, Unrecorded, verify
+from weave_tools.map_files import is_map_of_turns
+from weave_tools.rules import Output
+from weave_tools.verifying import Run, Unrecorded, verify
 
 PAGE = "file://" + os.path.join(TOOLS, "view.html")
 MORE = "more pebbles"
@@ -219,6 +220,15 @@ def try_changed_bytes(name, browser, files, run, folder, chance):
         browser.wait_for("files.out.name === 'out'")
 
 
+def verdict_of(count, total, has_record):
+    """The lines of the page on files whose map is what the records leave. None of them is green, since rules 2 to 14 aren't
+    tried."""
+    if not has_record:
+        return [differing(count, total), "No record is there, so that only the output is tried."]
+    return [differing(count, total), "0 entries of the map differ from what the records leave.",
+            "Not tried here: that each cut costs least (rules 2 to 14). weave check tries it."]
+
+
 def differing(count, total):
     return f"{count} of {total} cells of the output differ from what the map names."
 
@@ -287,7 +297,7 @@ def try_file(name, browser, files, folder, which, data, called):
         hold(f"{name}, {called} as {slot}, {data[:40]}", found, [line])
         is_line = True
     elif said.returncode == 0 or rule[1] in ("16", "17"):
-        differ, unlike = [int(text.split()[0]) > 0 for text in found]
+        differ, unlike = [int(text.split()[0]) > 0 for text in found[:2]]
         hold(f"{name}, {line}, whether the map differs", unlike, rule is not None and rule[1] == "16")
         if not unlike:
             hold(f"{name}, {line}, whether the output differs", differ, rule is not None)
@@ -353,8 +363,8 @@ def try_run(name, browser, pictures, chance):
         files, turns, report = make_run(name, folder)
         run, lines = read_run(files, turns), set()
         show(browser, files)
-        hold(name, verdict(browser), [differing(0, len(run.out.cells) // run.samples.samples)]
-             + ["0 entries of the map differ from what the records leave."] * (files[2] is not None))
+        hold(name, verdict(browser), verdict_of(0, len(run.out.cells) // run.samples.samples, files[2] is not None))
+        hold(f"{name}, whether it is said in green", browser.value("document.querySelectorAll('#verdict .good').length"), 0)
         try_cells(name, browser, run, chance)
         try_steps(name, browser, run, chance)
         try_seams(name, browser, report)
@@ -371,16 +381,54 @@ def try_run(name, browser, pictures, chance):
 
 
 def try_folder(browser, chance):
-    """A folder that texture left, chosen as it is."""
+    """A folder that texture left, chosen as it is: its sums are tried, its files unpacked, and a page for an auditor made."""
     with tempfile.TemporaryDirectory() as folder:
         words = ["grow", os.path.join(EXAMPLES, "pebbles.ppm"), os.path.join(folder, "more.png"), "90x70"]
         subprocess.run([os.path.join(TOOLS, "texture")] + words, check=True, capture_output=True)
-        browser.open(PAGE)
-        browser.choose("#folder", [os.path.join(folder, "more.weave")])
-        browser.wait_for("document.getElementById('verdict').textContent !== ''")
+        kept = os.path.join(folder, "more.png.weave")
+        choose_folder(browser, kept)
         hold("a folder of texture", verdict(browser)[0], differing(0, 90 * 70))
         hold("its record", browser.value("run.record.kind"), 0)
-    print("a folder of texture opens")
+        hold("its sums", browser.value("document.querySelector('#verdict .good').textContent"),
+             "The files of the folder are as the list of sums says.")
+        hold("its origin", any(line.startswith("By about: more.png, made by grow of pebbles.ppm") for line in verdict(browser)), True)
+        browser.value("window.print = () => { window.printed = true; }; $('report').click(); new Promise(done => setTimeout(done, 200))")
+        text = browser.value("$('audit').innerText")
+        for wanted in ("Where more.png came from", "pebbles.ppm", "100.0% of the result", "What wasn't tried here"):
+            hold(f"whether the auditor's page has '{wanted}'", wanted in text, True)
+        hold("whether it is printed", browser.value("window.printed"), True)
+        report = os.path.join(kept, "report")
+        with open(report, "ab") as file:
+            file.write(b" ")
+        choose_folder(browser, kept)
+        hold("a changed file", "report isn't as the list of sums says." in verdict(browser), True)
+        hold("whether that is green", browser.value("document.querySelectorAll('#verdict .good').length"), 0)
+        try_unread(browser, kept, folder)
+    print("a folder of texture opens, with its sums, its origin and a page for an auditor")
+
+
+def choose_folder(browser, kept):
+    """Opens the page and chooses a folder of texture's."""
+    browser.open(PAGE)
+    browser.choose("#folder", [kept])
+    browser.wait_for("[...document.querySelectorAll('#verdict p')].some(line => line.textContent.startsWith('By about'))")
+
+
+def try_unread(browser, kept, folder):
+    """A file that can't be read is a fault in the place of the run before it."""
+    name = os.path.join(folder, "gone.ppm")
+    shutil.copyfile(os.path.join(kept, "out.ppm"), name)
+    browser.value("window.held = [...document.querySelectorAll('#out')][0]")
+    with open(name, "rb") as file:
+        data = file.read()
+    browser.choose("#out", [name])
+    browser.wait_for("files.out && files.out.name === 'gone.ppm'")
+    os.remove(name)
+    browser.value("$('out').dispatchEvent(new Event('change')); new Promise(done => setTimeout(done, 300))")
+    hold("a file that can't be read", verdict(browser), ["weave: out: read fault"])
+    hold("whether the run before it is shown", browser.value("$('work').hidden"), True)
+    with open(name, "wb") as file:
+        file.write(data)
 
 
 CELLS = """Array.from({ length: cellsOf(run.size) }, (_, i) => {

@@ -1,19 +1,17 @@
 #!/usr/bin/env python3
-"""Holds the documents against the rules of their English: words to avoid, long lines, long sentences.
+"""Holds the documents against the rules of their English: words to avoid, and long lines.
 
     checks/words.py [FILE ..]         all *.md files of the repository, where none is named
     checks/words.py --comments        the words to avoid in comments of code and definitions
 
 Prints each place with what is wrong there, and how many there are; ends with 1 where there are any. Fenced code is
-held against the length of lines alone. A code span counts as one word, and its text isn't looked at. A cell of a
-table, an item of a list and a heading end a sentence as a full stop does. The page of a crate has 30 to 60 lines,
-and says what the crate doesn't promise. README.md has 120 lines at most."""
+held against the length of lines alone, and the text of a code span isn't looked at. The page of a crate says what
+the crate doesn't promise, where it isn't a stored run. README.md has 120 lines at most."""
 import pathlib
 import re
 import sys
 
-MOST_COLUMNS, MOST_WORDS, MOST_OF_README = 99, 29, 120
-LEAST_LINES, MOST_LINES = 30, 60
+MOST_COLUMNS, MOST_OF_README = 100, 120
 ROOT = pathlib.Path(__file__).resolve().parent.parent
 UNPROMISED = "## What it doesn't promise"
 
@@ -38,19 +36,8 @@ AVOIDED = {
 }
 PATTERNS = [(re.compile(rf"\b(?:{word})\b", re.I), better) for word, better in AVOIDED.items()]
 SPAN = re.compile(r"``.*?``|`[^`\n]*(?:\n[^`\n]*)?`")
-LINK = re.compile(r"!?\[([^\]]*)\]\([^)]*\)")
 REFERENCE = re.compile(r"\[[^\]]+\]: ")
 ITEM = re.compile(r"\s*(?:[-*]|\d+\.)\s+")
-END = re.compile(r"(?<=[.!?])[)\"*]*\s+(?=[A-Z`*(0-9\[\"]|[a-z-]+/)")
-
-
-def sentences(text):
-    plain = LINK.sub(lambda it: it[1], SPAN.sub("CODE", text))
-    return [it.strip() for it in END.split(plain) if it.strip()]
-
-
-def count(sentence):
-    return len([word for word in sentence.split() if re.search(r"\w", word)])
 
 
 def blocks(lines):
@@ -88,14 +75,12 @@ def blocks(lines):
 
 
 def faults_of_page(path, lines):
-    """Whether README or the page of a crate has too many lines or too few, or the latter lacks a part."""
+    """Whether README has too many lines, or the page of a crate lacks a part."""
     if path == ROOT / "README.md" and len(lines) > MOST_OF_README + 1:
         yield 1, f"page of {len(lines) - 1} lines"
-    if path.parent.parent.name == "crates":
-        if not LEAST_LINES <= len(lines) - 1 <= MOST_LINES:
-            yield 1, f"page of {len(lines) - 1} lines"
-        if UNPROMISED not in lines:
-            yield 1, f"no part '{UNPROMISED}'"
+    crate = path.parent
+    if crate.parent.name == "crates" and not (crate / "stdout").exists() and UNPROMISED not in lines:
+        yield 1, f"no part '{UNPROMISED}'"
 
 
 def faults(path):
@@ -109,9 +94,6 @@ def faults(path):
         for pattern, better in PATTERNS:
             for found in pattern.finditer(plain.replace("\n", " ")):
                 yield number, f"'{found[0]}': {better}"
-        for sentence in sentences(text):
-            if count(sentence) > MOST_WORDS:
-                yield number, f"sentence of {count(sentence)} words: {' '.join(sentence.split()[:9])} .."
 
 
 def comments():

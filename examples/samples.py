@@ -5,10 +5,17 @@
 
 NAME is that of a function below. P6 pictures are bricks, olives, gravel, grass, wood, cloth, rust, clouds, three that go
 badly, halves, dusk and writing, and portrait, to be painted. YUV4MPEG2 clips are waves, sway, flame, pendulum and snow. Each
-NAME gives the same file every time."""
+NAME gives the same file every time. A FILE that ends in .png is a PNG.
+
+    examples/samples.py wall FOLDER
+
+writes a material of four layers: colour.png, normal.png of 16 bits with green up, roughness.png and height.png of 16 bits."""
 import math
 import random
+import os
+import struct
 import sys
+import zlib
 
 
 def clamp(value):
@@ -363,6 +370,67 @@ def snow():
     return side, side, shots
 
 
+WALL_WIDTH, WALL_HEIGHT, COURSE, BRICK = 256, 240, 24, 64
+
+
+def wall_heights():
+    """The height of each pixel of a wall from 0 to 1, its colour and its roughness: rows of bricks with rounded edges."""
+    chance = random.Random(11)
+    coarse, fine, edge = (noise(chance, WALL_WIDTH, WALL_HEIGHT, step) for step in (17, 4, 7))
+    tints, heights, colours, roughness = {}, [], [], []
+    for y in range(WALL_HEIGHT):
+        for x in range(WALL_WIDTH):
+            row = y // COURSE
+            across = (x + BRICK // 2 * (row % 2)) % WALL_WIDTH
+            brick = row, across // BRICK
+            if brick not in tints:
+                tints[brick] = chance.uniform(-1, 1), chance.uniform(-1, 1), chance.uniform(-.06, .06)
+            tint, hue, lift = tints[brick]
+            inside = min(across % BRICK, BRICK - 1 - across % BRICK, y % COURSE, COURSE - 1 - y % COURSE)
+            solid = max(0.0, min(1.0, (inside - 1.6 + 1.1 * edge(x, y)) / 3))
+            solid *= solid * (3 - 2 * solid)
+            grain = .5 * coarse(x, y) + .5 * fine(x, y)
+            heights.append(max(0.0, min(1.0, .18 + .05 * fine(x, y) + solid * (.62 + lift + .10 * grain))))
+            light = 1 + .13 * tint + .12 * grain
+            red, green, blue = 158 * light, (84 + 10 * hue) * light, (66 + 8 * hue) * light
+            joint = 172 + 22 * fine(x, y)
+            colours.append(tuple(clamp(solid * c + (1 - solid) * joint * d) for c, d in ((red, 1), (green, .97), (blue, .9))))
+            roughness.append(clamp(235 - solid * (70 + 35 * grain)))
+    return heights, colours, roughness
+
+
+def wall(folder):
+    """Writes the four layers of the wall. A normal is told by the slopes of the heights to the neighbours on both sides."""
+    heights, colours, roughness = wall_heights()
+    normals, steep = [], 5.0
+    for y in range(WALL_HEIGHT):
+        for x in range(WALL_WIDTH):
+            def at(u, v):
+                return heights[u % WALL_WIDTH + WALL_WIDTH * (v % WALL_HEIGHT)]
+            right, up = steep * (at(x - 1, y) - at(x + 1, y)), steep * (at(x, y + 1) - at(x, y - 1))
+            length = math.sqrt(right * right + up * up + 1)
+            normals.append(tuple(round(32767.5 * (1 + n / length)) for n in (right, up, 1)))
+    size = WALL_WIDTH, WALL_HEIGHT
+    layers = {"colour": (8, 2, colours), "normal": (16, 2, normals), "roughness": (8, 0, [(n,) for n in roughness]),
+              "height": (16, 0, [(round(65535 * n),) for n in heights])}
+    for name, (depth, kind, pixels) in layers.items():
+        write(os.path.join(folder, name + ".png"), png_bytes(*size, depth, kind, pixels))
+
+
+def png_bytes(width, height, depth, kind, pixels):
+    """A PNG of pixels of numbers of 8 or 16 bits: of kind 0 grey ones, and of kind 2 of red, green and blue."""
+    def chunk(name, data):
+        return struct.pack(">I", len(data)) + name + data + struct.pack(">I", zlib.crc32(name + data))
+
+    letter, rows = "B" if depth == 8 else "H", []
+    for at in range(0, width * height, width):
+        numbers = [n for pixel in pixels[at:at + width] for n in pixel]
+        rows.append(b"\0" + struct.pack(f">{len(numbers)}{letter}", *numbers))
+    head = struct.pack(">IIBBBBB", width, height, depth, kind, 0, 0, 0)
+    data = zlib.compress(b"".join(rows), 9)
+    return b"\x89PNG\r\n\x1a\n" + chunk(b"IHDR", head) + chunk(b"IDAT", data) + chunk(b"IEND", b"")
+
+
 PICTURES = {
     it.__name__: it
     for it in (bricks, olives, gravel, grass, halves, wood, cloth, rust, clouds, dusk, writing, portrait)
@@ -382,12 +450,27 @@ def clip_bytes(width, height, frames):
     return head + b"".join(b"FRAME\n" + b"".join(bytes(plane) for plane in frame) for frame in planes)
 
 
+def write(name, data):
+    with open(name, "wb") as out:
+        out.write(data)
+
+
 def main(name, file):
-    with open(file, "wb") as out:
-        out.write(picture_bytes(*PICTURES[name]()) if name in PICTURES else clip_bytes(*CLIPS[name]()))
+    if name == "wall":
+        wall(file)
+    elif name in CLIPS:
+        write(file, clip_bytes(*CLIPS[name]()))
+    elif file.endswith(".png"):
+        width, height, cells = PICTURES[name]()
+        write(file, png_bytes(width, height, 8, 2, cells))
+    else:
+        write(file, picture_bytes(*PICTURES[name]()))
 
 
 if __name__ == "__main__":
-    if len(sys.argv) != 3 or sys.argv[1] not in {**PICTURES, **CLIPS}:
+    if len(sys.argv) != 3 or sys.argv[1] not in {**PICTURES, **CLIPS, "wall": wall}:
         sys.exit(__doc__)
-    main(*sys.argv[1:])
+    try:
+        main(*sys.argv[1:])
+    except OSError as error:
+        sys.exit(f"samples.py: {error.filename}: {error.strerror}")
